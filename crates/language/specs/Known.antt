@@ -1,0 +1,20 @@
+-- What questions 4, 7 and 8 show of a part's nodes, and the later questions lean on to be safe.
+use mathlib.Core.Path.{_≡_}
+use mathlib.Core.Bool.{Bool, true, _||_}
+use mathlib.Core.List.{List}
+use Prim.Native.Nat.{ℕ, _≤_, _<_}
+use lib.Dec.{eqb}
+use Rattle.records.specs.Fields.{kindAt, aAt, bAt}
+use Rattle.records.specs.Children.{arityAt}
+use Rattle.language.specs.Scopes.{usesVariable}
+
+-- a kind whose b is a variable
+unfoldable pub namesVariable : ℕ → Bool
+namesVariable kind = usesVariable kind || eqb kind 9
+
+-- of n nodes of a part, in a file of F functions
+pub record Known (F : ℕ) (t : List ℕ) (n : ℕ) : Type 0 where
+  pub child : (i : ℕ) → i < n → 0 < arityAt t i → 0 < i
+  pub variable : (i : ℕ) → i < n → namesVariable (kindAt t i) ≡ true → bAt t i < 64
+  pub callee : (i : ℕ) → i < n → kindAt t i ≡ 5 → bAt t i < F
+  pub arguments : (i : ℕ) → i < n → kindAt t i ≡ 5 → aAt t i ≤ 8

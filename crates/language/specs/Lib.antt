@@ -1,0 +1,9 @@
+pub mod Sorts
+pub mod Statements
+pub mod Flow
+pub mod Scopes
+pub mod Types
+pub mod Records
+pub mod Nodes
+pub mod Check
+pub mod Known

@@ -1,0 +1,29 @@
+-- Expressions and statements.
+use mathlib.Core.Bool.{Bool, true, false, not, _&&_, _||_}
+use Prim.Native.Nat.{ℕ}
+use lib.Dec.{eqb, ltb}
+
+-- one of two holds and the other does not
+unfoldable pub differ : Bool → Bool → Bool
+differ true b = not b
+differ false b = b
+
+-- kinds 0 to 5 and 15 are expressions
+unfoldable pub isExpression : ℕ → Bool
+isExpression kind = ltb kind 6 || eqb kind 15
+
+-- the children of seq and decl are statements
+unfoldable pub holdsStatements : ℕ → Bool
+holdsStatements kind = eqb kind 7 || eqb kind 9
+
+-- an if and a while have a condition first, then statements
+unfoldable pub hasCondition : ℕ → Bool
+hasCondition kind = eqb kind 10 || eqb kind 11
+
+-- child k, counted from the left, of a node of that kind is to be an expression
+unfoldable pub wantsExpression : ℕ → ℕ → Bool
+wantsExpression kind k = not (holdsStatements kind) && (not (hasCondition kind) || eqb k 0)
+
+-- a node of kind `child` is of the other sort than child k of a node of that kind is to be
+unfoldable pub wrongSort : ℕ → ℕ → ℕ → Bool
+wrongSort kind k child = differ (isExpression child) (wantsExpression kind k)

@@ -1,0 +1,1 @@
+// What the nodes of a procedure mean.

@@ -1,0 +1,4 @@
+pub mod Ranges
+pub mod Arities
+pub mod Loops
+pub mod Parts

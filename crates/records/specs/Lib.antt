@@ -1,0 +1,5 @@
+pub mod Bytes
+pub mod Fields
+pub mod Parts
+pub mod Search
+pub mod Children

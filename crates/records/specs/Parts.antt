@@ -1,0 +1,26 @@
+-- Each function's nodes are one unbroken part, starting after the part before it.
+use mathlib.Core.List.{List}
+use Prim.Native.Nat.{ℕ, zero, suc, _+_, _*_, _≤_, _<_}
+use lib.ListN.{take, drop, length}
+use Rattle.records.specs.Fields.{functions, countOf}
+
+-- the part counts of the first f functions together
+unfoldable pub sumOf : List ℕ → ℕ → ℕ
+sumOf s zero = 0
+sumOf s (suc f) = sumOf s f + countOf s f
+
+-- the record that function f's part starts at
+unfoldable pub startOf : List ℕ → ℕ → ℕ
+startOf s f = 1 + functions s + sumOf s f
+
+-- the bytes of function f's part
+unfoldable pub partOf : List ℕ → ℕ → List ℕ
+partOf s f = take (12 * countOf s f) (drop (12 * startOf s f) s)
+
+-- the parts lie in the file
+pub record Laid (s : List ℕ) : Type 0 where
+  pub few : functions s ≤ 128
+  pub heads : 12 * (1 + functions s) ≤ length s
+  pub fits : (f : ℕ) → f < functions s → 12 * (startOf s f + countOf s f) ≤ length s
+  pub small : (f : ℕ) → f < functions s → countOf s f ≤ 4096
+  pub some : (f : ℕ) → f < functions s → 1 ≤ countOf s f
