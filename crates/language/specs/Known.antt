@@ -2,9 +2,9 @@
 use mathlib.Core.Path.{_≡_}
 use mathlib.Core.Bool.{Bool, true, _||_}
 use mathlib.Core.List.{List}
-use Prim.Native.Nat.{ℕ, _≤_, _<_}
+use Prim.Native.Nat.{ℕ, _+_, _≤_, _<_}
 use lib.Dec.{eqb}
-use Rattle.records.specs.Fields.{kindAt, aAt, bAt}
+use Rattle.records.specs.Fields.{kindAt, aAt, bAt, sizeAt}
 use Rattle.records.specs.Children.{arityAt}
 use Rattle.language.specs.Scopes.{usesVariable}
 
@@ -15,6 +15,7 @@ namesVariable kind = usesVariable kind || eqb kind 9
 -- of n nodes of a part, in a file of F functions
 pub record Known (F : ℕ) (t : List ℕ) (n : ℕ) : Type 0 where
   pub child : (i : ℕ) → i < n → 0 < arityAt t i → 0 < i
+  pub sized : (i : ℕ) → i < n → sizeAt t i ≤ i + 1
   pub variable : (i : ℕ) → i < n → namesVariable (kindAt t i) ≡ true → bAt t i < 64
   pub callee : (i : ℕ) → i < n → kindAt t i ≡ 5 → bAt t i < F
   pub arguments : (i : ℕ) → i < n → kindAt t i ≡ 5 → aAt t i ≤ 8
