@@ -1,18 +1,19 @@
--- The bit operations on numbers of any width are the operations on sets. Assumes nothing.
+-- The bit operations on numbers of any width are the operations on sets.
 use mathlib.Core.Path.{_≡_, refl, sym, ap, ap₂, _∙_, subst}
 use mathlib.Core.Logic.{_⊎_, inl, inr}
 use mathlib.Core.Bool.{Bool, true, false, not, _&&_, _||_}
 use Prim.Native.Nat.{ℕ, zero, suc, _+_, _-_, _*_, _/_, _%_, _^_, _≤_, _<_, min, max}
-use native.Mathlib.Nat.{mod-lt, zero-lt-suc, not-suc-le-zero, le-of-suc-le-suc, div-eq-of-lt, div-one}
+use native.Mathlib.Nat.{mod-lt, zero-lt-suc, not-suc-le-zero, le-of-suc-le-suc, div-eq-of-lt, div-one, one-mul, pow-suc}
 use native.Mathlib.Numerals.{one-add}
 use native.Mathlib.Omega.{arith}
-use lib.Dec.{eqb, lit<, eqb·zero-suc, eqb·suc-zero, eqb·suc-suc}
+use borrow.Author.Tests.{lt-ltb, le-ltb, ltb-true, ltb-false}
+use lib.Dec.{eqb, ltb, lit<, eqb·zero-suc, eqb·suc-zero, eqb·suc-suc}
 use lib.Count.{trailingZeros, under}
 use lib.Arith.{digits-mod, digits-lt}
 use lib.Bits.{differ, bitAnd, bitOr, bitXor, and-step, or-step, xor-step, and-shr, or-shr, xor-shr, shifted-half, shifted-even}
 use lib.Pow.{pow-pos, pow-lt, shr-shr, shl-exact}
 use Rattle.varset.specs.Lowest.{pick, lowest}
-use Rattle.varset.specs.Sets.{has, with, without, both, either, less, none}
+use Rattle.varset.specs.Sets.{has, with, without, both, either, less, none, below}
 
 -- how an operation on digits acts on members
 record Digits (f : ℕ → ℕ → ℕ) (g : Bool → Bool → Bool) : Type 0 where
@@ -136,3 +137,43 @@ with-is w a i h = λ k j. (or-has a (1 * 2 ^ i % 2 ^ w) j ∙ ap (λ (b : Bool).
 pub without-is : (w a i : ℕ) → i < w → has (bitXor a (bitAnd a (1 * 2 ^ i % 2 ^ w))) ≡ without (has a) i
 unfolding without
 without-is w a i h = λ k j. (less-has a (1 * 2 ^ i % 2 ^ w) j ∙ ap (λ (b : Bool). has a j && not b) (shl-has w i j h)) k
+
+-- a row of n ones has the numbers below n
+ones-half : (n : ℕ) → (2 ^ suc n - 1) / 2 ≡ 2 ^ n - 1
+ones-half n =
+    let p : 0 < 2 ^ n = pow-pos n in
+    let e : 2 ^ suc n ≡ 2 ^ n * 2 = pow-suc 2 n in
+    omega arith
+
+ones-odd : (n : ℕ) → (2 ^ suc n - 1) % 2 ≡ 1
+ones-odd n =
+    let p : 0 < 2 ^ n = pow-pos n in
+    let e : 2 ^ suc n ≡ 2 ^ n * 2 = pow-suc 2 n in
+    omega arith
+
+ltb-suc : (j n : ℕ) → ltb (suc j) (suc n) ≡ ltb j n
+ltb-suc j n = go (ltb j n) refl
+  where
+    go : (b : Bool) → ltb j n ≡ b → ltb (suc j) (suc n) ≡ b
+    go true e = lt-ltb (suc j) (suc n) (omega (arith, ltb-true j n e))
+    go false e = le-ltb (suc j) (suc n) (omega (arith, ltb-false j n e))
+
+ones-has : (n j : ℕ) → has (2 ^ n - 1) j ≡ ltb j n
+ones-has zero j = zero-has j ∙ sym (le-ltb j 0 (omega arith))
+ones-has (suc n) zero = bit-zero (2 ^ suc n - 1) ∙ ap (λ (x : ℕ). eqb x 1) (ones-odd n) ∙ sym (lt-ltb 0 (suc n) (omega arith))
+ones-has (suc n) (suc j) = sym (half-has (2 ^ suc n - 1) j) ∙ ap (λ (x : ℕ). has x j) (ones-half n) ∙ ones-has n j ∙ sym (ltb-suc j n)
+
+-- the same of `(1 << n) - 1` in a word of w bits
+pub below-is : (w n : ℕ) → n < w → has (1 * 2 ^ n % 2 ^ w - 1) ≡ below n
+unfolding below
+below-is w n h = λ k j. (ap (λ (x : ℕ). has (x - 1) j) (shl-exact 1 n w (lit< tt) (omega arith) ∙ one-mul (2 ^ n)) ∙ ones-has n j) k
+
+pub all-is : (n : ℕ) → has (2 ^ n - 1) ≡ below n
+unfolding below
+all-is n = λ k j. ones-has n j k
+
+pub shl-some : (w n : ℕ) → n < w → 1 ≤ 1 * 2 ^ n % 2 ^ w
+shl-some w n h =
+    let e : 1 * 2 ^ n % 2 ^ w ≡ 2 ^ n = shl-exact 1 n w (lit< tt) (omega arith) ∙ one-mul (2 ^ n) in
+    let p : 0 < 2 ^ n = pow-pos n in
+    omega arith
