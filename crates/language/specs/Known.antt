@@ -12,10 +12,13 @@ use Rattle.language.specs.Scopes.{usesVariable}
 unfoldable pub namesVariable : ℕ → Bool
 namesVariable kind = usesVariable kind || eqb kind 9
 
--- of n nodes of a part, in a file of F functions
-pub record Known (F : ℕ) (t : List ℕ) (n : ℕ) : Type 0 where
+-- of n nodes of a part
+pub record Known (t : List ℕ) (n : ℕ) : Type 0 where
   pub child : (i : ℕ) → i < n → 0 < arityAt t i → 0 < i
   pub sized : (i : ℕ) → i < n → sizeAt t i ≤ i + 1
   pub variable : (i : ℕ) → i < n → namesVariable (kindAt t i) ≡ true → bAt t i < 64
-  pub callee : (i : ℕ) → i < n → kindAt t i ≡ 5 → bAt t i < F
   pub arguments : (i : ℕ) → i < n → kindAt t i ≡ 5 → aAt t i ≤ 8
+
+-- the calls among n nodes of a part are of the first F functions
+abbrev pub Calls : ℕ → List ℕ → ℕ → Type 0
+Calls F t n = (i : ℕ) → i < n → kindAt t i ≡ 5 → bAt t i < F

@@ -1,0 +1,18 @@
+-- What the pass over the decls keeps.
+use mathlib.Core.Path.{_≡_}
+use mathlib.Core.List.{List}
+use Prim.Native.Nat.{ℕ, _<_}
+use lib.Dec.{leb}
+use lib.ListN.{getD}
+use Rattle.varset.specs.Sets.{has}
+use Rattle.language.specs.Scopes.{declCount, declOf}
+use Rattle.scopes.specs.declared.Declared.{Declared}
+
+-- of the first i nodes: the variables that have a decl, and those that have two
+pub record Counts (t : List ℕ) (i : ℕ) (d : Declared) : Type 0 where
+  pub seen : has (d .seen .0) ≡ (λ x. leb 1 (declCount t i x))
+  pub twice : has (d .twice .0) ≡ (λ x. leb 2 (declCount t i x))
+
+-- a table of the decls of the variables below 64, among the first n nodes
+abbrev pub Decls : List ℕ → ℕ → List ℕ → Type 0
+Decls t n table = (x : ℕ) → x < 64 → getD table x 0 ≡ declOf t n x
