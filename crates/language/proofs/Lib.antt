@@ -1,1 +1,3 @@
 pub mod Samples
+pub mod Facts
+pub mod Accept

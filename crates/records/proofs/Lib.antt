@@ -1,3 +1,4 @@
+pub mod Bools
 pub mod Ranges
 pub mod Arities
 pub mod Loops
