@@ -1,3 +1,4 @@
 pub mod Samples
 pub mod Facts
 pub mod Accept
+pub mod Tiles
