@@ -1,6 +1,21 @@
 // Questions 4, 7, 8 and 9: function records, node records, sizes and sorts.
 use records::Found;
-use records::{a_at, arity_at, b_at, count_of, function_count, kind_at, mark_at, mask_of, minus, params_of, prior, result_of, size_at, u16_at, vars_of, wide};
+use records::a_at;
+use records::arity_at;
+use records::b_at;
+use records::count_of;
+use records::function_count;
+use records::kind_at;
+use records::mark_at;
+use records::mask_of;
+use records::minus;
+use records::params_of;
+use records::prior;
+use records::result_of;
+use records::size_at;
+use records::u16_at;
+use records::vars_of;
+use records::wide;
 ghost use mathlib.Core.Path.{_≡_};
 ghost use mathlib.Core.Bool.{not, _&&_};
 ghost use Prim.Native.Nat.{ℕ, _+_, _*_, _-_, _^_, _≤_, _<_, min};
@@ -36,7 +51,9 @@ pub fn function_ok(file: &[u8], f: usize) -> bool
     let count = count_of(file, f);
     if p <= 8 {
         let fits = mask_fits(mask_of(file, f), p);
-        (mark == 20038) & ((result <= 2) & ((p <= 8) & (((p <= v) & (v <= 64)) & (fits & ((zeros == 0) & (1 <= count))))))
+        (mark == 20038)
+            & ((result <= 2)
+                & ((p <= 8) & (((p <= v) & (v <= 64)) & (fits & ((zeros == 0) & (1 <= count))))))
     } else {
         false
     }
@@ -185,7 +202,11 @@ fn wrong_sort(kind: u8, k: usize, child: u8) -> bool
     ensures { λ r. ⌜ r ≡ wrongSort kind k child ⌝ }
 {
     let wanted = wants_expression(kind, k);
-    if is_expression(child) { !wanted } else { wanted }
+    if is_expression(child) {
+        !wanted
+    } else {
+        wanted
+    }
 }
 
 // The lower of two numbers, where the second counts only if it is wrong.
@@ -201,7 +222,7 @@ fn lower(low: usize, c: usize, wrong: bool) -> usize
 
 // The lower of `best` and the lowest child of node q that is of the wrong sort.
 fn lowest_wrong(part: &[u8], n: usize, q: usize, best: usize) -> usize
-    requires { ⌜ (12 * n ≤ length (now part)) × (q < n) ⌝ }
+    requires { ⌜ (12 * n ≤ length (now part)) × (q < n) × (best ≤ n) ⌝ }
     ensures { λ r. ⌜ r ≡ min best (lowest (wrongChild (now (part .entry)) (kindAt (now (part .entry)) q) (children (now (part .entry)) q)) n) ⌝ }
 {
     let kind = kind_at(part, q);
@@ -228,5 +249,9 @@ pub fn first_misplaced(part: &[u8], n: usize) -> Found
         low = lowest_wrong(part, n, q, low);
         q += 1;
     }
-    if low < n { Found::At(low, 0) } else { Found::Nothing }
+    if low < n {
+        Found::At(low, 0)
+    } else {
+        Found::Nothing
+    }
 }

@@ -1,72 +1,61 @@
 use borrow.Author.Needs.{needs}
+use Rattle.language.specs.Nodes.{fields, fieldsOk}
+use Rattle.shape.proofs.Fields.{past-five, fields-rest, fields-high}
 use Rattle.shape.proofs.fields_ok.Statement.{statement}
 use Rattle.shape.proofs.fields_ok.Tie as tie
-use Rattle.shape.proofs.fields_ok.Reads as reads
-use Rattle.shape.proofs.fields_ok.Lts as lts
-use Rattle.records.proofs.params_of.Reads as params-of-reads
-use Rattle.records.proofs.vars_of.Reads as vars-of-reads
-use Rattle.records.proofs.wide.Reads as wide-reads
-use Rattle.shape.proofs.call_ok.Reads as call-ok-reads
 
--- src/lib.rt:78:18
 params-of-requires : tie.Need-params-of-requires
 params-of-requires c κs = search needs
 
--- src/lib.rt:78:9
 wide-requires : tie.Need-wide-requires
 wide-requires c κs = search needs
 
--- src/lib.rt:79:18
 vars-of-requires : tie.Need-vars-of-requires
 vars-of-requires c κs = search needs
 
--- src/lib.rt:79:9
 wide-requires-2 : tie.Need-wide-requires-2
 wide-requires-2 c κs = search needs
 
--- src/lib.rt:86:14
 call-ok-requires : tie.Need-call-ok-requires
 call-ok-requires c κs = search needs
 
--- src/lib.rt:74:1
 returns : tie.Need-returns
-returns c = ?
+unfolding fieldsOk fields
+returns c = rw (c .match .keys1)
 
--- src/lib.rt:74:1
 returns-2 : tie.Need-returns-2
-returns-2 c = ?
+unfolding fieldsOk fields
+returns-2 c = rw (c .match .keys2)
 
--- src/lib.rt:74:1
 returns-3 : tie.Need-returns-3
-returns-3 c = ?
+unfolding fieldsOk fields
+returns-3 c = rw (c .match .keys3, c .before .wide2 .ensures .0, c .before .before .vars-of .ensures)
 
--- src/lib.rt:74:1
 returns-4 : tie.Need-returns-4
-returns-4 c = ?
+unfolding fieldsOk fields
+returns-4 c = rw (c .match .keys4)
 
--- src/lib.rt:74:1
 returns-5 : tie.Need-returns-5
-returns-5 c = ?
+unfolding fieldsOk fields
+returns-5 c = rw (c .match .keys5)
 
--- src/lib.rt:74:1
 returns-6 : tie.Need-returns-6
-returns-6 c = ?
+unfolding fieldsOk fields
+returns-6 c = rw (c .before .match .keys6, c .call-ok .ensures)
 
--- src/lib.rt:74:1
 returns-7 : tie.Need-returns-7
-returns-7 c = ?
+unfolding fieldsOk fields
+returns-7 c = rw (c .match .keys7, c .before .wide2 .ensures .0, c .before .before .vars-of .ensures)
 
--- src/lib.rt:74:1
 returns-8 : tie.Need-returns-8
-returns-8 c = ?
+unfolding fieldsOk fields
+returns-8 c = rw (c .match .keys8, c .before .wide2 .ensures .0, c .before .before .vars-of .ensures, c .before .before .before .wide .ensures .0, c .before .before .before .before .params-of .ensures)
 
--- src/lib.rt:74:1
 returns-9 : tie.Need-returns-9
-returns-9 c = ?
+returns-9 c = fields-rest _ _ _ _ _ (past-five _ (c .before .match .rest .0 .0 .0 .0 .0 .0 .0 .1) (c .before .match .rest .0 .0 .0 .0 .0 .0 .1) (c .before .match .rest .0 .0 .0 .0 .0 .1) (c .before .match .rest .0 .0 .0 .0 .1) (c .before .match .rest .0 .0 .0 .1) (c .before .match .rest .0 .0 .1)) (c .if1 .taken) (c .before .match .rest .0 .1) (c .before .match .rest .1)
 
--- src/lib.rt:74:1
 returns-10 : tie.Need-returns-10
-returns-10 c = ?
+returns-10 c = fields-high _ _ _ _ _ (c .if1 .left)
 
 pub fields-ok-spec : {M : Type 1} → statement M
 fields-ok-spec =

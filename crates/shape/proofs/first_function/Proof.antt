@@ -1,42 +1,39 @@
+use Prim.Native.Nat.{_-_, _≤_}
+use mathlib.Core.Path.{sym, ap, _∙_}
+use mathlib.Core.Bool.{not}
+use borrow.Author.Count.{below-none, below-more}
+use borrow.Author.Needs.{needs}
+use Rattle.records.proofs.Loops.{Below, first-at, first-none}
+use Rattle.language.specs.Records.{functionOk}
 use Rattle.shape.proofs.first_function.Statement.{statement}
 use Rattle.shape.proofs.first_function.Tie as tie
-use Rattle.shape.proofs.first_function.Reads as reads
-use Rattle.shape.proofs.first_function.Lts as lts
-use Rattle.shape.proofs.function_ok.Reads as function-ok-reads
 
 abbrev Inv-loop : tie.InvT-loop
-Inv-loop file count f₀ f = ?
+Inv-loop file count f₀ f = (f ≤ count) × Below (λ k. not (functionOk file k)) f
 
 abbrev μ-loop : tie.MeasureT-loop
-μ-loop file count f₀ f = ?
+μ-loop file count f₀ f = count - f
 
--- src/lib.rt:51:5
 loop-holds : tie.Need-loop-holds Inv-loop μ-loop
-loop-holds c = ?
+loop-holds c = (search needs, below-none _)
 
--- src/lib.rt:52:13
 function-ok-requires : tie.Need-function-ok-requires Inv-loop μ-loop
-function-ok-requires c κs = ?
+function-ok-requires c κs = search needs
 
--- src/lib.rt:53:13
 returns : tie.Need-returns Inv-loop μ-loop
-returns c = ?
+returns c = first-at _ _ _ (search needs) (c .before .before .before .loop .inv .1) (sym (ap not (c .before .function-ok .ensures)) ∙ c .if1 .taken)
 
--- src/lib.rt:55:9
 add-f : tie.Need-add-f Inv-loop μ-loop
-add-f c = ?
+add-f c = search needs
 
--- src/lib.rt:51:5
 loop-less : tie.Need-loop-less Inv-loop μ-loop
-loop-less c = ?
+loop-less c = search needs
 
--- src/lib.rt:51:5
 loop-again : tie.Need-loop-again Inv-loop μ-loop
-loop-again c = ?
+loop-again c = (search needs, below-more _ _ (c .before .before .before .loop .inv .1) (sym (ap not (c .before .function-ok .ensures)) ∙ c .if1 .left))
 
--- src/lib.rt:46:1
 returns-2 : tie.Need-returns-2 Inv-loop μ-loop
-returns-2 c = ?
+returns-2 c = first-none _ _ _ (search needs) (c .before .loop .inv .1)
 
 pub first-function-spec : {M : Type 1} → statement M
 first-function-spec =

@@ -1,18 +1,13 @@
 use borrow.Author.Needs.{needs}
 use Rattle.shape.proofs.lower.Statement.{statement}
 use Rattle.shape.proofs.lower.Tie as tie
-use Rattle.shape.proofs.lower.Reads as reads
-use Rattle.shape.proofs.lower.Lts as lts
 
--- src/lib.rt:192:1
 returns : tie.Need-returns
-returns c = ?
+returns c = rw (c .before .if1 .taken) (search needs)
 
--- src/lib.rt:192:1
 returns-2 : tie.Need-returns-2
-returns-2 c = ?
+returns-2 c = rw (c .before .if1 .taken) (search needs)
 
--- src/lib.rt:192:1
 returns-3 : tie.Need-returns-3
 returns-3 c = search needs
 

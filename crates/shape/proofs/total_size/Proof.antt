@@ -1,47 +1,43 @@
+use Prim.Native.Nat.{_+_, _*_, _≤_}
+use mathlib.Core.Path.{_≡_}
+use lib.ListN.{length}
+use borrow.Author.Needs.{needs}
+use Rattle.records.specs.Fields.{sizeAt}
+use Rattle.records.specs.Children.{walk}
+use Rattle.language.specs.Nodes.{total}
+use Rattle.shape.proofs.Sizes.{sum-step, sum-end}
 use Rattle.shape.proofs.total_size.Statement.{statement}
 use Rattle.shape.proofs.total_size.Tie as tie
-use Rattle.shape.proofs.total_size.Reads as reads
-use Rattle.shape.proofs.total_size.Lts as lts
-use Rattle.records.proofs.minus.Reads as minus-reads
-use Rattle.records.proofs.size_at.Reads as size-at-reads
 
 abbrev Inv-loop : tie.InvT-loop
-Inv-loop part m last sum₀ j₀ c₀ sum j c = ?
+Inv-loop part m last sum₀ j₀ c₀ sum j c = (12 * c + 12 ≤ length part) × (sum + j * 4294967296 ≤ m * 4294967296) × (sum + total (sizeAt part) (walk (sizeAt part) j c) ≡ total (sizeAt part) (walk (sizeAt part) m last))
 
 abbrev μ-loop : tie.MeasureT-loop
-μ-loop part m last sum₀ j₀ c₀ sum j c = ?
+μ-loop part m last sum₀ j₀ c₀ sum j c = j
 
--- src/lib.rt:112:5
 loop-holds : tie.Need-loop-holds Inv-loop μ-loop
-loop-holds c = ?
+loop-holds c = search needs
 
--- src/lib.rt:113:13
 size-at-requires : tie.Need-size-at-requires Inv-loop μ-loop
-size-at-requires c κs = ?
+size-at-requires c κs = search needs
 
--- src/lib.rt:114:9
 add-sum : tie.Need-add-sum Inv-loop μ-loop
-add-sum c = ?
+add-sum c = search needs
 
--- src/lib.rt:115:9
 minus-requires : tie.Need-minus-requires Inv-loop μ-loop
-minus-requires c κs = ?
+minus-requires c κs = search needs
 
--- src/lib.rt:116:9
 sub-j : tie.Need-sub-j Inv-loop μ-loop
-sub-j c = ?
+sub-j c = search needs
 
--- src/lib.rt:112:5
 loop-less : tie.Need-loop-less Inv-loop μ-loop
-loop-less c = ?
+loop-less c = search needs
 
--- src/lib.rt:112:5
 loop-again : tie.Need-loop-again Inv-loop μ-loop
-loop-again c = ?
+loop-again c = (search needs, search needs, sum-step _ _ _ _ _ (c .before .before .before .loop .inv .2) _ _ (search needs) (c .before .size-at .ensures .0) (c .minus .ensures))
 
--- src/lib.rt:105:1
 returns : tie.Need-returns Inv-loop μ-loop
-returns c = ?
+returns c = (sum-end _ _ _ _ _ (c .before .loop .inv .2) (search needs), search needs)
 
 pub total-size-spec : {M : Type 1} → statement M
 total-size-spec =

@@ -1,27 +1,26 @@
+use Rattle.language.specs.Sorts.{holdsStatements, hasCondition, wantsExpression}
+use Rattle.shape.proofs.Sorts.{wants-rest}
 use Rattle.shape.proofs.wants_expression.Statement.{statement}
 use Rattle.shape.proofs.wants_expression.Tie as tie
-use Rattle.shape.proofs.wants_expression.Reads as reads
-use Rattle.shape.proofs.wants_expression.Lts as lts
 
--- src/lib.rt:171:1
 returns : tie.Need-returns
-returns c = ?
+unfolding wantsExpression holdsStatements hasCondition
+returns c = rw (c .match .keys1)
 
--- src/lib.rt:171:1
 returns-2 : tie.Need-returns-2
-returns-2 c = ?
+unfolding wantsExpression holdsStatements hasCondition
+returns-2 c = rw (c .match .keys2)
 
--- src/lib.rt:171:1
 returns-3 : tie.Need-returns-3
-returns-3 c = ?
+unfolding wantsExpression holdsStatements hasCondition
+returns-3 c = rw (c .match .keys3)
 
--- src/lib.rt:171:1
 returns-4 : tie.Need-returns-4
-returns-4 c = ?
+unfolding wantsExpression holdsStatements hasCondition
+returns-4 c = rw (c .match .keys4)
 
--- src/lib.rt:171:1
 returns-5 : tie.Need-returns-5
-returns-5 c = ?
+returns-5 c = wants-rest _ _ (c .match .rest .0 .0 .0 .1) (c .match .rest .0 .0 .1) (c .match .rest .0 .1) (c .match .rest .1)
 
 pub wants-expression-spec : {M : Type 1} → statement M
 wants-expression-spec = tie.close (tie.spec returns returns-2 returns-3 returns-4 returns-5)

@@ -1,0 +1,5 @@
+pub mod Lowest
+pub mod Sorts
+pub mod Fields
+pub mod Sizes
+pub mod Places
