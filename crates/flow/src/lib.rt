@@ -1,6 +1,13 @@
 // Questions 13 and 14: every variable read has a value, and every body returns.
 use records::Found;
-use records::{b_at, kind_at, minus, or_else, params_of, prior, size_at, wide};
+use records::b_at;
+use records::kind_at;
+use records::minus;
+use records::or_else;
+use records::params_of;
+use records::prior;
+use records::size_at;
+use records::wide;
 use varset::VarSet;
 ghost use mathlib.Core.Path.{_≡_};
 ghost use mathlib.Core.Bool.{not, _&&_};

@@ -1,27 +1,26 @@
 -- An accepted file, question by question: the check accepts it exactly where every record passes every question.
-use mathlib.Core.Path.{_≡_, refl, sym, ap, _∙_}
-use mathlib.Core.Bool.{Bool, true, false, not, _&&_, _||_, false≢true}
-use mathlib.Core.List.{List, [], _∷_}
-use Prim.Native.Nat.{ℕ, zero, suc, _+_, _*_, _-_, _%_, _≤_, _<_}
+use mathlib.Core.Path.{_≡_, refl, sym}
+use mathlib.Core.Bool.{Bool, true, false, not}
+use mathlib.Core.List.{List, _∷_}
+use Prim.Native.Nat.{ℕ, zero, suc, _+_, _-_, _≤_, _<_}
 use native.Mathlib.Omega.{arith}
-use lib.Dec.{eqb, leb, ltb}
-use lib.ListN.{length, getD}
-use borrow.Author.Tests.{eqb-true, eqb-false, eq-eqb, leb-true, le-leb, not-true, not-false, ltb-false, le-ltb}
+use lib.Dec.{eqb, ltb}
+use lib.ListN.{getD}
+use borrow.Author.Tests.{eqb-true, eqb-false, not-false, ltb-false, le-ltb}
 use Rattle.varset.specs.Lowest.{pick, lowest}
 use Rattle.varset.specs.Sets.{below}
-use Rattle.records.specs.Fields.{functions, nodes, resultOf, paramsOf, varsOf, countOf}
-use Rattle.records.specs.Parts.{sumOf, startOf, partOf, Laid}
+use Rattle.records.specs.Fields.{functions, paramsOf, varsOf, countOf}
+use Rattle.records.specs.Parts.{partOf, Laid}
 use Rattle.records.specs.Search.{firstOf, shift, orElse, firstIn, unless}
 use Rattle.records.specs.declared.Found.{Found}
 use Rattle.records.specs.declared.Found.the-variants.{At, Nothing}
-use Rattle.records.proofs.Bools.{and-left, and-right, and-both}
 use Rattle.records.proofs.Loops.{Below, first-none, none-found, lowest-none, lowest-below}
 use Rattle.records.proofs.Parts.{none-in}
 use Rattle.language.specs.Statements.{statementAt}
 use Rattle.language.specs.Flow.{lacks, returns}
 use Rattle.language.specs.Records.{lengthOk, headerOk, recordsOk, functionOk, sumOk, mainOk}
 use Rattle.language.specs.Nodes.{nodeOk, sizeOk, misplaced, undeclared, firstUndeclared, outside, mistyped, answers}
-use Rattle.language.specs.Check.{Verdict, accepted, refused, Asked, ask, originOf, inPart, partQuestions, questions, refuse, put, checkOf}
+use Rattle.language.specs.Check.{accepted, Asked, ask, originOf, inPart, partQuestions, questions, refuse, put, checkOf}
 use Rattle.language.specs.Known.{Known, Calls}
 use Rattle.language.proofs.Facts.{Header, header-is, Function, function-is, laid, known, calls}
 
@@ -158,7 +157,7 @@ accepted-is s e =
       eleven = λ f i h. none-found (outside s f (partOf s f) (countOf s f)) (countOf s f) (rest 11 (omega arith) (omega arith) f h) i;
       twelve = λ f i h. none-found (mistyped s f (partOf s f) (countOf s f)) (countOf s f) (rest 12 (omega arith) (omega arith) f h) i;
       thirteen = λ f h. rest 13 (omega arith) (omega arith) f h;
-      fourteen = λ f h. unless-none _ 0 (rest 14 (omega arith) (omega arith) f h)
+      fourteen = λ f h. unless-none _ 0 (rest 14 (omega arith) (omega arith) f h);
     }
 
 -- a statement of each number from 7 to 14

@@ -1,17 +1,17 @@
 -- Questions 10 and 11 mean that a use lies inside the subtree of the one decl of its variable.
-use mathlib.Core.Path.{_≡_, refl, sym, ap, _∙_}
-use mathlib.Core.Bool.{Bool, true, false, not, _&&_, _||_, false≢true}
+use mathlib.Core.Path.{_≡_, refl}
+use mathlib.Core.Bool.{Bool, true, false, not, _&&_}
 use mathlib.Core.List.{List}
 use Prim.Native.Nat.{ℕ, zero, suc, _+_, _≤_, _<_}
 use native.Mathlib.Omega.{arith}
-use native.Mathlib.Nat.{not-suc-le-zero, le-of-suc-le-suc}
+use native.Mathlib.Nat.{not-suc-le-zero}
 use native.Mathlib.Decide.{decLt}
-use lib.Dec.{eqb, leb, ltb}
+use lib.Dec.{eqb, ltb}
 use borrow.Author.Tests.{eqb-true, le-leb, ltb-true, not-false}
 use Rattle.varset.specs.Lowest.{pick}
 use Rattle.records.specs.Fields.{functions, paramsOf, varsOf, countOf, kindAt, bAt, sizeAt}
 use Rattle.records.specs.Parts.{partOf}
-use Rattle.records.proofs.Bools.{and-left, and-right, and-both, by, clash}
+use Rattle.records.proofs.Bools.{and-left, and-right, clash}
 use Rattle.language.specs.Scopes.{declaresAt, declCount, declOf, under, usesVariable}
 use Rattle.language.specs.Nodes.{undeclared, outside}
 use Rattle.language.proofs.Accept.{Accepted}

@@ -1,23 +1,21 @@
 -- What the questions of the records and of the nodes show, where they find nothing.
-use mathlib.Core.Path.{_≡_, refl, sym, ap, _∙_}
+use mathlib.Core.Path.{_≡_, refl}
 use mathlib.Core.Logic.{_⊎_, inl, inr}
-use mathlib.Core.Bool.{Bool, true, false, not, _&&_, _||_, false≢true}
-use mathlib.Core.List.{List, [], _∷_}
+use mathlib.Core.Bool.{Bool, true, false, not, _||_}
+use mathlib.Core.List.{List}
 use Prim.Native.Nat.{ℕ, zero, suc, _+_, _*_, _-_, _^_, _≤_, _<_}
 use native.Mathlib.Omega.{arith}
 use native.Mathlib.Nat.{not-suc-le-zero}
-use native.Mathlib.Numerals.{add-one}
 use lib.Dec.{eqb, leb, ltb}
-use lib.ListN.{length, getD, List·getD-eq-default}
+use lib.ListN.{length}
 use borrow.Author.Tests.{eqb-true, leb-true, ltb-true, ltb-false, not-true, eq-eqb}
 use Rattle.records.specs.Bytes.{u16At}
 use Rattle.records.specs.Fields.{markAt, functions, nodes, resultOf, paramsOf, varsOf, maskOf, countOf, kindAt, aAt, bAt, sizeAt}
-use Rattle.records.specs.Parts.{sumOf, startOf, partOf, Laid}
-use Rattle.records.specs.Children.{arities, arityOf, arityAt, walk, children}
-use Rattle.records.proofs.Bools.{and-left, and-right, by, or-cases, clash}
-use Rattle.records.proofs.Loops.{Below}
+use Rattle.records.specs.Parts.{sumOf, startOf, Laid}
+use Rattle.records.specs.Children.{arityAt, walk, children}
+use Rattle.records.proofs.Bools.{and-left, and-right, or-cases, clash}
 use Rattle.language.specs.Scopes.{usesVariable}
-use Rattle.language.specs.Records.{within, headerOk, recordsOk, functionOk, sumOk, mainOk}
+use Rattle.language.specs.Records.{within, headerOk, recordsOk, functionOk, sumOk}
 use Rattle.language.specs.Nodes.{fields, fieldsOk, nodeOk, total, sizeOk}
 use Rattle.language.specs.Known.{namesVariable, Known, Calls}
 
@@ -66,7 +64,7 @@ function-is s f e =
       least = v .0;
       vars = v .1;
       mask = ltb-true _ _ (and-left (ltb (maskOf s f) (2 ^ paramsOf s f)) _ d);
-      some = leb-true 1 (countOf s f) (and-right (eqb (u16At s (12 * (1 + f) + 6)) 0) _ g)
+      some = leb-true 1 (countOf s f) (and-right (eqb (u16At s (12 * (1 + f) + 6)) 0) _ g);
     }
 
 -- the parts before m lie below the sum of the first m counts
@@ -94,7 +92,7 @@ laid s h r g u =
       small = λ f k. omega (arith, sum-more s f (functions s) k, h .small);
       some = λ f k. g f k .some;
       params = λ f k. g f k .params;
-      vars = λ f k. g f k .vars
+      vars = λ f k. g f k .vars;
     }
 
 -- question 7 at a node
@@ -137,7 +135,7 @@ sized-is t n i e =
     record {
       size = eqb-true _ _ (and-left (eqb (sizeAt t i) (1 + z)) _ e);
       inside = leb-true _ _ (and-left (leb z i) _ a);
-      whole = λ q. or-cases (not (eqb (1 + i) n)) (eqb (sizeAt t i) n) b (λ k. clash (eqb (1 + i) n) (eq-eqb _ _ q) (not-true _ k)) (λ k. eqb-true _ _ k)
+      whole = λ q. or-cases (not (eqb (1 + i) n)) (eqb (sizeAt t i) n) b (λ k. clash (eqb (1 + i) n) (eq-eqb _ _ q) (not-true _ k)) (λ k. eqb-true _ _ k);
     }
 
 no-child : (t : List ℕ) (n m : ℕ) → arityAt t 0 ≡ suc m → Sized t n 0 → ⊥
@@ -177,10 +175,10 @@ module _ (s : List ℕ) (f : ℕ) (t : List ℕ) (n : ℕ) (g : (k : ℕ) → k 
         child = λ i h. child-above t n i (sized-is t n i (eight i h));
         sized = λ i h. let z = sized-is t n i (eight i h) in omega (arith, z .size, z .inside);
         variable =
-          λ i h e. names-cases (kindAt t i) e
-          (λ k. omega (arith, variable-fields s f (aAt t i) (bAt t i) (at i h 2 k), g f l .vars))
-          (λ k. omega (arith, assign-fields s f (aAt t i) (bAt t i) (at i h 8 k), g f l .vars))
-          (λ k. omega (arith, decl-fields s f (aAt t i) (bAt t i) (at i h 9 k) .2, g f l .vars));
+            λ i h e. names-cases (kindAt t i) e
+            (λ k. omega (arith, variable-fields s f (aAt t i) (bAt t i) (at i h 2 k), g f l .vars))
+            (λ k. omega (arith, assign-fields s f (aAt t i) (bAt t i) (at i h 8 k), g f l .vars))
+            (λ k. omega (arith, decl-fields s f (aAt t i) (bAt t i) (at i h 9 k) .2, g f l .vars));
         arguments =
-          λ i h e. let c = call-fields s f (aAt t i) (bAt t i) (at i h 5 e) in omega (arith, c .1, g (bAt t i) (c .0) .params)
+            λ i h e. let c = call-fields s f (aAt t i) (bAt t i) (at i h 5 e) in omega (arith, c .1, g (bAt t i) (c .0) .params);
       }

@@ -1,9 +1,7 @@
 -- Worked files: what the check's definition says of them, by computation.
 use mathlib.Core.Path.{_≡_, refl}
-use mathlib.Core.Bool.{Bool, true, false}
 use mathlib.Core.List.{List, [], _∷_, _++_}
-use Prim.Native.Nat.{ℕ, zero, suc, _+_, _*_}
-use lib.ListN.{length}
+use Prim.Native.Nat.{ℕ, _+_}
 use Rattle.varset.specs.Lowest.{lowest}
 use Rattle.varset.specs.Sets.{has, none, with, without, both, either, less, below}
 use Rattle.records.specs.Bytes.{u16At, u32At}
@@ -18,7 +16,7 @@ use Rattle.language.specs.Scopes.{declaresAt, declCount, declOf, under, 
 use Rattle.language.specs.Types.{paramType, varType, operatorType, typesOf, typeAt, condition, wantsOf, wantAt, suits, agree}
 use Rattle.language.specs.Records.{within, lengthOk, headerOk, recordsOk, functionOk, sumOk, mainOk}
 use Rattle.language.specs.Nodes.{fields, fieldsOk, nodeOk, total, sizeOk, wrongChild, some, misplaced, undeclared, firstUndeclared, outside, mistyped, answers}
-use Rattle.language.specs.Check.{Verdict, accepted, refused, originOf, inPart, partQuestions, questions, refuse, put, checkOf}
+use Rattle.language.specs.Check.{accepted, originOf, inPart, partQuestions, questions, refuse, put, checkOf}
 
 -- a file: its header, its functions with their nodes
 abbrev header : ℕ → ℕ → List ℕ

@@ -1,5 +1,5 @@
 -- Question 8 means that children tile their parent's subtree, left to right, without gaps.
-use mathlib.Core.Path.{_≡_, refl, sym, ap, _∙_}
+use mathlib.Core.Path.{_≡_}
 use mathlib.Core.List.{List, [], _∷_}
 use Prim.Native.Nat.{ℕ, zero, suc, _+_, _-_, _≤_, _<_}
 use native.Mathlib.Omega.{arith}
@@ -7,8 +7,8 @@ use native.Mathlib.Nat.{not-suc-le-zero, le-refl}
 use native.Mathlib.Decide.{decLt, ℕ-discrete}
 use Rattle.records.specs.Fields.{sizeAt}
 use Rattle.records.specs.Children.{arityAt, walk, children}
-use Rattle.language.specs.Nodes.{total, sizeOk}
-use Rattle.language.proofs.Facts.{Sized, sized-is}
+use Rattle.language.specs.Nodes.{total}
+use Rattle.language.proofs.Facts.{Sized}
 
 -- the subtrees of these nodes, the last first, stand side by side: the first begins at lo, and the last ends before hi
 pub data Tiles (size : ℕ → ℕ) : ℕ → ℕ → List ℕ → Type 0 where

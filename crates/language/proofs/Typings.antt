@@ -1,24 +1,24 @@
 -- Question 12, one theorem for each line of the paper, of every node of an accepted file.
-use mathlib.Core.Path.{_≡_, refl, sym, ap, _∙_}
-use mathlib.Core.Logic.{_⊎_, inl, inr, ⊎-elim}
-use mathlib.Core.Bool.{Bool, true, false, not, _&&_, _||_}
+use mathlib.Core.Path.{_≡_, refl, sym, ap}
+use mathlib.Core.Logic.{_⊎_, ⊎-elim}
+use mathlib.Core.Bool.{Bool, true, false, not, _&&_}
 use mathlib.Core.List.{List, [], _∷_}
-use Prim.Native.Nat.{ℕ, zero, suc, _+_, _*_, _-_, _/_, _%_, _^_, _≤_, _<_}
+use Prim.Native.Nat.{ℕ, zero, suc, _-_, _/_, _%_, _^_, _≤_, _<_}
 use native.Mathlib.Omega.{arith}
 use native.Mathlib.Nat.{mod-lt, zero-lt-suc, not-suc-le-zero}
 use lib.Dec.{eqb, ltb}
-use lib.ListN.{getD, length}
-use borrow.Author.Tests.{eqb-true, ne-eqb, not-false, ltb-true, ltb-false, lt-ltb, eqb-false}
+use lib.ListN.{length}
+use borrow.Author.Tests.{eqb-true, ne-eqb, not-false, ltb-false, eqb-false}
 use Rattle.varset.specs.Lowest.{pick}
 use Rattle.records.specs.Fields.{functions, resultOf, paramsOf, varsOf, maskOf, countOf, kindAt, aAt, bAt, sizeAt}
 use Rattle.records.specs.Parts.{partOf}
 use Rattle.records.specs.Children.{arities, arityOf, arityAt, walk, children}
-use Rattle.records.proofs.Bools.{and-left, and-right, or-cases, by}
+use Rattle.records.proofs.Bools.{and-left, and-right}
 use Rattle.language.specs.Statements.{prior, last}
 use Rattle.language.specs.Scopes.{declaresAt, declOf}
-use Rattle.language.specs.Types.{any, unset, paramType, varType, operatorType, typesOf, typeAt, condition, wantsOf, wantAt, suits, agree}
+use Rattle.language.specs.Types.{any, paramType, varType, operatorType, typesOf, typeAt, condition, wantsOf, wantAt, suits, agree}
 use Rattle.language.specs.Nodes.{fieldsOk, mistyped}
-use Rattle.language.proofs.Facts.{Function, node-fields, variable-fields, assign-fields, decl-fields, call-fields}
+use Rattle.language.proofs.Facts.{node-fields, assign-fields, decl-fields}
 use Rattle.language.proofs.Accept.{Accepted, function}
 use Rattle.language.proofs.Decls.{one-decl}
 
@@ -34,7 +34,7 @@ unfolding paramType
 param-small s f k = let m : maskOf s f / 2 ^ k % 2 < 2 = mod-lt (maskOf s f / 2 ^ k) (zero-lt-suc 1) in (omega arith, omega arith)
 
 -- child k of a list of children, the last first
-nth : ℕ → List ℕ → ℕ
+unfoldable pub nth : ℕ → List ℕ → ℕ
 nth k [] = 0
 nth k (c ∷ cs) = pick (eqb k (length cs)) c (nth k cs)
 
@@ -51,6 +51,36 @@ length-walk : (size : ℕ → ℕ) (m c : ℕ) → length (walk size m c) ≡ m
 unfolding walk
 length-walk size zero c = refl
 length-walk size (suc m) c = ap suc (length-walk size m (c - size c))
+
+-- the children of nodes with one, two and three
+one-child : (t : List ℕ) (i : ℕ) → arityAt t i ≡ 1 → children t i ≡ last i ∷ []
+unfolding children walk last
+one-child t i e = rw e
+
+two-children : (t : List ℕ) (i : ℕ) → arityAt t i ≡ 2 → children t i ≡ last i ∷ (prior t (last i) ∷ [])
+unfolding children walk last prior
+two-children t i e = rw e
+
+three-children : (t : List ℕ) (i : ℕ) → arityAt t i ≡ 3 → children t i ≡ last i ∷ (prior t (last i) ∷ (prior t (prior t (last i)) ∷ []))
+unfolding children walk last prior
+three-children t i e = rw e
+
+module _ (want type : ℕ → ℕ) where
+  one-typed : (a w : ℕ) → want 0 ≡ w → w ≤ 2 → agree want type (a ∷ []) ≡ true → type a ≡ w
+  unfolding agree
+  one-typed a w e l h = suits-is w (type a) l (rw e at (and-left (suits (want 0) (type a)) _ h))
+
+  first-agrees : (a b w : ℕ) → want 0 ≡ w → agree want type (b ∷ (a ∷ [])) ≡ true → suits w (type a) ≡ true
+  unfolding agree
+  first-agrees a b w e h = rw e at (and-left (suits (want 0) (type a)) _ (and-right (suits (want 1) (type b)) _ h))
+
+  two-typed : (a b v w : ℕ) → want 0 ≡ v → want 1 ≡ w → v ≤ 2 → w ≤ 2 → agree want type (b ∷ (a ∷ [])) ≡ true → (type a ≡ v) × (type b ≡ w)
+  unfolding agree
+  two-typed a b v w e g l m h = (suits-is v (type a) l (first-agrees a b v e h), suits-is w (type b) m (rw g at (and-left (suits (want 1) (type b)) _ h)))
+
+  three-typed : (a b c w : ℕ) → want 0 ≡ w → w ≤ 2 → agree want type (c ∷ (b ∷ (a ∷ []))) ≡ true → type a ≡ w
+  unfolding agree
+  three-typed a b c w e l h = suits-is w (type a) l (first-agrees a b w e (and-right (suits (want 2) (type c)) _ h))
 
 -- a decl's type is int or bool
 decl-small : (s : List ℕ) (h : Accepted s) (f : ℕ) → f < functions s → (x : ℕ) → paramsOf s f ≤ x → x < varsOf s f
@@ -102,16 +132,75 @@ module _ (s : List ℕ) (h : Accepted s) (f : ℕ) (l : f < functions s) where
   module _ (i : ℕ) (p : i < n) where
     -- operators take ints
     pub operator-wants : kindAt t i ≡ 3 → (type (prior t (last i)) ≡ 1) × (type (last i) ≡ 1)
-    unfolding wantAt wantsOf children arityAt arityOf arities walk agree prior last
-    operator-wants e =
-        let a : suits 1 (type (i - 1)) && (suits 1 (type (i - 1 - sizeAt t (i - 1))) && true) ≡ true = rw e at (agrees i p) in
-        let b = and-right (suits 1 (type (i - 1))) _ a in
-        (suits-is 1 _ (omega arith) (and-left (suits 1 (type (i - 1 - sizeAt t (i - 1)))) _ b), suits-is 1 _ (omega arith) (and-left (suits 1 (type (i - 1))) _ a))
+    unfolding wantAt wantsOf arityAt arityOf arities
+    operator-wants e = two-typed (wantAt s f t n i) type (prior t (last i)) (last i) 1 1 (rw e) (rw e) (omega arith) (omega arith) (rw (two-children t i (rw e)) at (agrees i p))
 
     -- && wants bools
     pub and-wants : kindAt t i ≡ 4 → (type (prior t (last i)) ≡ 2) × (type (last i) ≡ 2)
-    unfolding wantAt wantsOf children arityAt arityOf arities walk agree prior last
-    and-wants e =
-        let a : suits 2 (type (i - 1)) && (suits 2 (type (i - 1 - sizeAt t (i - 1))) && true) ≡ true = rw e at (agrees i p) in
-        let b = and-right (suits 2 (type (i - 1))) _ a in
-        (suits-is 2 _ (omega arith) (and-left (suits 2 (type (i - 1 - sizeAt t (i - 1)))) _ b), suits-is 2 _ (omega arith) (and-left (suits 2 (type (i - 1))) _ a))
+    unfolding wantAt wantsOf arityAt arityOf arities
+    and-wants e = two-typed (wantAt s f t n i) type (prior t (last i)) (last i) 2 2 (rw e) (rw e) (omega arith) (omega arith) (rw (two-children t i (rw e)) at (agrees i p))
+
+    -- arguments want the parameters' types
+    pub call-wants : kindAt t i ≡ 5 → (k : ℕ) → k < aAt t i → type (nth k (children t i)) ≡ paramType s (bAt t i) k
+    unfolding wantAt wantsOf arityAt arityOf arities
+    call-wants e k q =
+        let w : wantAt s f t n i k ≡ paramType s (bAt t i) k = rw e in
+        let m : k < arityAt t i = rw e q in
+        suits-is _ _ (param-small s (bAt t i) k .1) (rw w at (wanted i k p m))
+
+    -- assign wants its variable's type
+    pub assign-wants : kindAt t i ≡ 8 → type (last i) ≡ varType s f t n (bAt t i)
+    unfolding wantAt wantsOf arityAt arityOf arities
+    assign-wants e =
+        one-typed (wantAt s f t n i) type (last i) (varType s f t n (bAt t i)) (rw e)
+        (variable-small (bAt t i) (assign-fields s f (aAt t i) (bAt t i) (fields-at i 8 p e)) .1) (rw (one-child t i (rw e)) at (agrees i p))
+
+    -- conditions want bool: of an if
+    pub if-wants : kindAt t i ≡ 10 → type (prior t (prior t (last i))) ≡ 2
+    unfolding wantAt wantsOf arityAt arityOf arities condition
+    if-wants e = three-typed (wantAt s f t n i) type (prior t (prior t (last i))) (prior t (last i)) (last i) 2 (rw e) (omega arith) (rw (three-children t i (rw e)) at (agrees i p))
+
+    -- and of a while
+    pub while-wants : kindAt t i ≡ 11 → type (prior t (last i)) ≡ 2
+    unfolding wantAt wantsOf arityAt arityOf arities condition
+    while-wants e = suits-is 2 _ (omega arith) (first-agrees (wantAt s f t n i) type (prior t (last i)) (last i) 2 (rw e) (rw (two-children t i (rw e)) at (agrees i p)))
+
+    -- return wants the function's result type
+    pub return-wants : kindAt t i ≡ 12 → type (last i) ≡ resultOf s f
+    unfolding wantAt wantsOf arityAt arityOf arities
+    return-wants e = one-typed (wantAt s f t n i) type (last i) (resultOf s f) (rw e) (function s h f l .result) (rw (one-child t i (rw e)) at (agrees i p))
+
+    -- asserts want bool; kind 14 takes any
+    pub assert-wants : kindAt t i ≡ 13 → type (last i) ≡ 2
+    unfolding wantAt wantsOf arityAt arityOf arities
+    assert-wants e = one-typed (wantAt s f t n i) type (last i) 2 (rw e) (omega arith) (rw (one-child t i (rw e)) at (agrees i p))
+
+-- ---- the type of a node of each kind
+module _ (s : List ℕ) (f : ℕ) (t : List ℕ) (n i : ℕ) where
+  pub int-type : kindAt t i ≡ 0 → typeAt s f t n i ≡ 1
+  unfolding typeAt typesOf
+  int-type e = rw e
+
+  pub bool-type : kindAt t i ≡ 1 → typeAt s f t n i ≡ 2
+  unfolding typeAt typesOf
+  bool-type e = rw e
+
+  pub variable-type : kindAt t i ≡ 2 → typeAt s f t n i ≡ varType s f t n (bAt t i)
+  unfolding typeAt typesOf
+  variable-type e = rw e
+
+  pub operator-gives : kindAt t i ≡ 3 → typeAt s f t n i ≡ operatorType (aAt t i)
+  unfolding typeAt typesOf
+  operator-gives e = rw e
+
+  pub and-gives : kindAt t i ≡ 4 → typeAt s f t n i ≡ 2
+  unfolding typeAt typesOf
+  and-gives e = rw e
+
+  pub call-gives : kindAt t i ≡ 5 → typeAt s f t n i ≡ resultOf s (bAt t i)
+  unfolding typeAt typesOf
+  call-gives e = rw e
+
+  pub nothing-type : kindAt t i ≡ 15 → typeAt s f t n i ≡ 0
+  unfolding typeAt typesOf
+  nothing-type e = rw e

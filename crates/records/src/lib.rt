@@ -75,7 +75,7 @@ pub fn mark_at(s: &[u8], k: usize) -> u32
 // The header's function count.
 pub fn function_count(file: &[u8]) -> usize
     requires { ⌜ 12 ≤ length (now file) ⌝ }
-    ensures { λ r. ⌜ r ≡ functions (now (file .entry)) ⌝ }
+    ensures { λ r. ⌜ (r ≡ functions (now (file .entry))) × (r < 65536) ⌝ }
 {
     u16_at(file, 2) as usize
 }

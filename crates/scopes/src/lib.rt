@@ -1,6 +1,11 @@
 // Questions 10 and 11: each variable is declared once, and used under its decl.
 use records::Found;
-use records::{b_at, kind_at, params_of, size_at, vars_of, wide};
+use records::b_at;
+use records::kind_at;
+use records::params_of;
+use records::size_at;
+use records::vars_of;
+use records::wide;
 use varset::VarSet;
 ghost use mathlib.Core.Path.{_≡_};
 ghost use Prim.Native.Nat.{ℕ, _+_, _*_, _≤_, _<_};
@@ -75,7 +80,11 @@ pub fn first_undeclared(file: &[u8], f: usize, part: &[u8], n: usize) -> Found
     let twice = d.twice;
     let own = VarSet::below(wide(vars_of(file, f))).minus(VarSet::below(wide(params_of(file, f))));
     let x = own.minus(seen.minus(twice)).lowest();
-    if x < 64 { Found::At(0, x) } else { Found::Nothing }
+    if x < 64 {
+        Found::At(0, x)
+    } else {
+        Found::Nothing
+    }
 }
 
 // The decl of each variable of a part of n nodes.

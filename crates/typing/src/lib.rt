@@ -1,6 +1,15 @@
 // Question 12: the type of each node, and the types that nodes want.
 use records::Found;
-use records::{a_at, arity_at, b_at, kind_at, mask_of, minus, params_of, prior, result_of, wide};
+use records::a_at;
+use records::arity_at;
+use records::b_at;
+use records::kind_at;
+use records::mask_of;
+use records::minus;
+use records::params_of;
+use records::prior;
+use records::result_of;
+use records::wide;
 ghost use mathlib.Core.Path.{_≡_};
 ghost use Prim.Native.Nat.{ℕ, _+_, _*_, _-_, _≤_, _<_};
 ghost use lib.ListN.{length, getD};
@@ -73,7 +82,15 @@ fn condition_type(k: usize) -> u8
 }
 
 // The type that node i wants of child k.
-fn want_of(file: &[u8], f: usize, part: &[u8], n: usize, decls: &[usize; 64], i: usize, k: usize) -> u8
+fn want_of(
+    file: &[u8],
+    f: usize,
+    part: &[u8],
+    n: usize,
+    decls: &[usize; 64],
+    i: usize,
+    k: usize,
+) -> u8
     requires laid { ⌜ Laid (now file) × (f < functions (now file)) ⌝ }
     requires inside { ⌜ (12 * n ≤ length (now part)) × (i < n) × (kindAt (now part) i ≡ 5 → k < 8) ⌝ }
     requires known { ⌜ Known (now part) n × Calls (functions (now file)) (now part) n ⌝ }
@@ -102,7 +119,15 @@ fn is_suited(want: u8, found: u8) -> bool
 }
 
 // Whether the children of node i have the types that it wants.
-fn children_agree(file: &[u8], f: usize, part: &[u8], n: usize, decls: &[usize; 64], types: &[u8; 4096], i: usize) -> bool
+fn children_agree(
+    file: &[u8],
+    f: usize,
+    part: &[u8],
+    n: usize,
+    decls: &[usize; 64],
+    types: &[u8; 4096],
+    i: usize,
+) -> bool
     requires laid { ⌜ Laid (now file) × (f < functions (now file)) ⌝ }
     requires inside { ⌜ (12 * n ≤ length (now part)) × (i < n) × (n ≤ 4096) ⌝ }
     requires known { ⌜ Known (now part) n × Calls (functions (now file)) (now part) n ⌝ }

@@ -1,6 +1,5 @@
 -- The bit operations on numbers of any width are the operations on sets.
-use mathlib.Core.Path.{_≡_, refl, sym, ap, ap₂, _∙_, subst}
-use mathlib.Core.Logic.{_⊎_, inl, inr}
+use mathlib.Core.Path.{_≡_, refl, sym, ap, _∙_}
 use mathlib.Core.Bool.{Bool, true, false, not, _&&_, _||_}
 use Prim.Native.Nat.{ℕ, zero, suc, _+_, _-_, _*_, _/_, _%_, _^_, _≤_, _<_, min, max}
 use native.Mathlib.Nat.{mod-lt, zero-lt-suc, not-suc-le-zero, le-of-suc-le-suc, div-eq-of-lt, div-one, one-mul, pow-suc}
@@ -9,7 +8,7 @@ use native.Mathlib.Omega.{arith}
 use borrow.Author.Tests.{lt-ltb, le-ltb, ltb-true, ltb-false}
 use lib.Dec.{eqb, ltb, lit<, eqb·zero-suc, eqb·suc-zero, eqb·suc-suc}
 use lib.Count.{trailingZeros, under}
-use lib.Arith.{digits-mod, digits-lt}
+use lib.Arith.{digits-mod}
 use lib.Bits.{differ, bitAnd, bitOr, bitXor, and-step, or-step, xor-step, and-shr, or-shr, xor-shr, shifted-half, shifted-even}
 use lib.Pow.{pow-pos, pow-lt, shr-shr, shl-exact}
 use Rattle.varset.specs.Lowest.{pick, lowest}
@@ -49,7 +48,7 @@ table : (f : ℕ → ℕ → ℕ) (g : Bool → Bool → Bool)
     → eqb (f 0 0) 1 ≡ g false false → eqb (f 0 1) 1 ≡ g false true → eqb (f 1 0) 1 ≡ g true false → eqb (f 1 1) 1 ≡ g true true → Digits f g
 table f g a b c d p q r s = record {
   small = by-digit (λ (x y : ℕ). f x y < 2) a b c d;
-  test = by-digit (λ (x y : ℕ). eqb (f x y) 1 ≡ g (eqb x 1) (eqb y 1)) p q r s
+  test = by-digit (λ (x y : ℕ). eqb (f x y) 1 ≡ g (eqb x 1) (eqb y 1)) p q r s;
 }
 
 pub and-has : (a b i : ℕ) → has (bitAnd a b) i ≡ has a i && has b i

@@ -2,22 +2,16 @@ use Rattle.records.specs.Fields.{aAt}
 use borrow.Author.Needs.{needs}
 use Rattle.records.proofs.a_at.Statement.{statement}
 use Rattle.records.proofs.a_at.Tie as tie
-use Rattle.records.proofs.a_at.Reads as reads
-use Rattle.records.proofs.a_at.Lts as lts
 
--- src/lib.rt:144:10
 mul-result : tie.Need-mul-result
 mul-result c = search needs
 
--- src/lib.rt:144:10
 add-result : tie.Need-add-result
 add-result c = search needs
 
--- src/lib.rt:144:5
 shared-slice-read-result : tie.Need-shared-slice-read-result
 shared-slice-read-result c = search needs
 
--- src/lib.rt:140:1
 returns : tie.Need-returns
 unfolding aAt
 returns c = search needs

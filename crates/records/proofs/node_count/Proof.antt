@@ -2,19 +2,13 @@ use Rattle.records.specs.Fields.{nodes}
 use borrow.Author.Needs.{needs}
 use Rattle.records.proofs.node_count.Statement.{statement}
 use Rattle.records.proofs.node_count.Tie as tie
-use Rattle.records.proofs.node_count.Reads as reads
-use Rattle.records.proofs.node_count.Lts as lts
-use Rattle.records.proofs.u32_at.Reads as u32-at-reads
 
--- src/lib.rt:88:5
 u32-at-requires : tie.Need-u32-at-requires
 u32-at-requires c κs = search needs
 
--- src/lib.rt:88:5
 cast-result : tie.Need-cast-result
 cast-result c = search needs
 
--- src/lib.rt:84:1
 returns : tie.Need-returns
 unfolding nodes
 returns c = search needs

@@ -2,23 +2,17 @@ use Rattle.records.specs.Search.{orElse}
 use borrow.Author.Needs.{needs}
 use Rattle.records.proofs.or_else.Statement.{statement}
 use Rattle.records.proofs.or_else.Tie as tie
-use Rattle.records.proofs.or_else.Reads as reads
-use Rattle.records.proofs.or_else.Lts as lts
 
--- src/lib.rt:32:19
 enum-known-found : tie.Need-enum-known-found
 enum-known-found c = search needs
 
--- src/lib.rt:33:27
 enum-told : tie.Need-enum-told
 enum-told c = search needs
 
--- src/lib.rt:28:1
 returns : tie.Need-returns
 unfolding orElse
 returns c = rw (c .before .found .given .1)
 
--- src/lib.rt:28:1
 returns-2 : tie.Need-returns-2
 unfolding orElse
 returns-2 c = rw (c .enum-told .given .1)

@@ -3,27 +3,20 @@ use Rattle.records.specs.Search.{shift}
 use borrow.Author.Needs.{needs}
 use Rattle.records.proofs.shift_by.Statement.{statement}
 use Rattle.records.proofs.shift_by.Tie as tie
-use Rattle.records.proofs.shift_by.Reads as reads
-use Rattle.records.proofs.shift_by.Lts as lts
 
--- src/lib.rt:22:19
 enum-known-found : tie.Need-enum-known-found
 enum-known-found c = search needs
 
--- src/lib.rt:22:45
 add-t6 : tie.Need-add-t6
 add-t6 c = omega (arith, c .before .before .before .pre (c .before .found .given .0 .0) (c .before .found .given .0 .1 .0) (c .before .found .given .1))
 
--- src/lib.rt:23:27
 enum-told : tie.Need-enum-told
 enum-told c = search needs
 
--- src/lib.rt:17:1
 returns : tie.Need-returns
 unfolding shift
 returns c = rw (c .before .found .given .1)
 
--- src/lib.rt:17:1
 returns-2 : tie.Need-returns-2
 unfolding shift
 returns-2 c = rw (c .enum-told .given .1)

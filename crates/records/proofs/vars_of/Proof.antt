@@ -2,26 +2,19 @@ use Rattle.records.specs.Fields.{varsOf}
 use borrow.Author.Needs.{needs}
 use Rattle.records.proofs.vars_of.Statement.{statement}
 use Rattle.records.proofs.vars_of.Tie as tie
-use Rattle.records.proofs.vars_of.Reads as reads
-use Rattle.records.proofs.vars_of.Lts as lts
 
--- src/lib.rt:112:16
 add-result : tie.Need-add-result
 add-result c = search needs
 
--- src/lib.rt:112:10
 mul-result : tie.Need-mul-result
 mul-result c = search needs
 
--- src/lib.rt:112:10
 add-result-2 : tie.Need-add-result-2
 add-result-2 c = search needs
 
--- src/lib.rt:112:5
 shared-slice-read-result : tie.Need-shared-slice-read-result
 shared-slice-read-result c = search needs
 
--- src/lib.rt:108:1
 returns : tie.Need-returns
 unfolding varsOf
 returns c = search needs

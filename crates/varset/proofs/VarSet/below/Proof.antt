@@ -2,22 +2,16 @@ use Rattle.varset.proofs.Laws.{below-is, all-is, shl-some}
 use borrow.Author.Needs.{needs}
 use Rattle.varset.proofs.VarSet.below.Statement.{statement}
 use Rattle.varset.proofs.VarSet.below.Tie as tie
-use Rattle.varset.proofs.VarSet.below.Reads as reads
-use Rattle.varset.proofs.VarSet.below.Lts as lts
 
--- src/lib.rt:29:21
 shl-t5 : tie.Need-shl-t5
 shl-t5 c = search needs
 
--- src/lib.rt:29:20
 sub-t6 : tie.Need-sub-t6
 sub-t6 c = shl-some 64 _ (search needs)
 
--- src/lib.rt:22:5
 returns : tie.Need-returns
 returns c = rw (c .if1 .taken) (all-is 64)
 
--- src/lib.rt:22:5
 returns-2 : tie.Need-returns-2
 returns-2 c = below-is 64 _ (search needs)
 

@@ -1,10 +1,7 @@
 use Rattle.varset.proofs.Laws.{none-is}
 use Rattle.varset.proofs.VarSet.empty.Statement.{statement}
 use Rattle.varset.proofs.VarSet.empty.Tie as tie
-use Rattle.varset.proofs.VarSet.empty.Reads as reads
-use Rattle.varset.proofs.VarSet.empty.Lts as lts
 
--- src/lib.rt:11:5
 returns : tie.Need-returns
 returns c = none-is
 

@@ -2,14 +2,10 @@ use Rattle.varset.proofs.Laws.{with-is}
 use borrow.Author.Needs.{needs}
 use Rattle.varset.proofs.VarSet.insert.Statement.{statement}
 use Rattle.varset.proofs.VarSet.insert.Tie as tie
-use Rattle.varset.proofs.VarSet.insert.Reads as reads
-use Rattle.varset.proofs.VarSet.insert.Lts as lts
 
--- src/lib.rt:21:26
 shl-t4 : tie.Need-shl-t4
 shl-t4 c = search needs
 
--- src/lib.rt:17:5
 returns : tie.Need-returns
 returns c = with-is 64 _ _ (search needs)
 

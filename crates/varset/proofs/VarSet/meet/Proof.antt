@@ -1,10 +1,7 @@
 use Rattle.varset.proofs.Laws.{both-is}
 use Rattle.varset.proofs.VarSet.meet.Statement.{statement}
 use Rattle.varset.proofs.VarSet.meet.Tie as tie
-use Rattle.varset.proofs.VarSet.meet.Reads as reads
-use Rattle.varset.proofs.VarSet.meet.Lts as lts
 
--- src/lib.rt:31:5
 returns : tie.Need-returns
 returns c = both-is _ _
 

@@ -1,10 +1,7 @@
 use Rattle.varset.proofs.Laws.{either-is}
 use Rattle.varset.proofs.VarSet.union.Statement.{statement}
 use Rattle.varset.proofs.VarSet.union.Tie as tie
-use Rattle.varset.proofs.VarSet.union.Reads as reads
-use Rattle.varset.proofs.VarSet.union.Lts as lts
 
--- src/lib.rt:37:5
 returns : tie.Need-returns
 returns c = either-is _ _
 
