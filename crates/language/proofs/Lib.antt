@@ -4,3 +4,6 @@ pub mod Accept
 pub mod Tiles
 pub mod Decls
 pub mod Typings
+pub mod Positions
+pub mod Trees
+pub mod Rules

@@ -47,7 +47,7 @@ agree-nth want type (c ∷ cs) e k h = go (eqb k (length cs)) refl (agree-nth wa
     go true q r = rw (eqb-true k (length cs) q) (and-left (suits (want (length cs)) (type c)) _ e)
     go false q r = let n : k ≡ length cs → ⊥ = eqb-false k (length cs) q in r (omega arith)
 
-length-walk : (size : ℕ → ℕ) (m c : ℕ) → length (walk size m c) ≡ m
+pub length-walk : (size : ℕ → ℕ) (m c : ℕ) → length (walk size m c) ≡ m
 unfolding walk
 length-walk size zero c = refl
 length-walk size (suc m) c = ap suc (length-walk size m (c - size c))

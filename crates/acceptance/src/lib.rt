@@ -1,0 +1,168 @@
+// The check of a procedure file: questions 1 to 14 in order.
+use records::Found;
+use records::{count_of, function_count, shift_by};
+ghost use mathlib.Core.Path.{_≡_};
+ghost use mathlib.Core.Bool.{true, _||_};
+ghost use Prim.Native.Nat.{ℕ, _+_, _*_, _-_, _≤_, _<_};
+ghost use lib.Dec.{eqb};
+ghost use lib.ListN.{length, getD};
+ghost use Rattle.varset.specs.Lowest.{pick};
+ghost use Rattle.records.specs.Fields.{functions};
+ghost use Rattle.records.specs.Parts.{Laid};
+ghost use Rattle.records.specs.Search.{firstIn};
+ghost use Rattle.language.specs.Records.{headerOk, recordsOk};
+ghost use Rattle.language.specs.Nodes.{answers};
+ghost use Rattle.language.specs.Check.{put, partQuestions, inPart, checkOf};
+ghost use Rattle.language.specs.Known.{Known, Calls};
+ghost use Rattle.acceptance.specs.Answers.{says};
+ghost use Rattle.acceptance.specs.Stages.{fromFour, Ready};
+
+// Accepted, or refused by question, place and item.
+pub enum Answer {
+    Accepted,
+    Refused {
+        question: u8,
+        place: usize,
+        item: u32,
+    },
+}
+
+// What fails question q, from 7 to 14, in the part of function f, which has n nodes.
+fn answer_in(file: &[u8], q: u8, f: usize, part: &[u8], n: usize) -> Found
+    requires laid { ⌜ Laid (now file) × (f < functions (now file)) ⌝ }
+    requires inside { ⌜ (12 * n ≤ length (now part)) × (1 ≤ n) × (n ≤ 4096) × (7 ≤ q) ⌝ }
+    requires known { ⌜ (9 < q → Known (now part) n × Calls (functions (now file)) (now part) n) ⌝ }
+    ensures exact { λ r. ⌜ r ≡ getD (answers (now (file .entry)) f (now (part .entry)) n) (q - 7) Found.Nothing ⌝ }
+    ensures within { λ r. ⌜ ((i x : ℕ) → r ≡ Found.At i x → i < n) ⌝ }
+{
+    match q {
+        7 => shape::first_node(file, f, part, n, 7),
+        8 => shape::first_node(file, f, part, n, 8),
+        9 => shape::first_misplaced(part, n),
+        10 => scopes::first_undeclared(file, f, part, n),
+        11 => scopes::first_outside(file, f, part, n),
+        12 => typing::first_mistyped(file, f, part, n),
+        13 => flow::first_lacking(file, f, part, n),
+        14 => flow::not_returning(part, n),
+        _ => Found::Nothing,
+    }
+}
+
+// The record that the places of question q in function f are counted from.
+fn origin(q: u8, f: usize, start: usize) -> usize
+    requires { ⌜ f < 128 ⌝ }
+    ensures { λ r. ⌜ r ≡ pick (eqb q 10 || eqb q 14) (1 + f) start ⌝ }
+{
+    match q {
+        10 => 1 + f,
+        14 => 1 + f,
+        _ => start,
+    }
+}
+
+// What fails question q, from 7 to 14, in the first function where anything does.
+fn first_in_parts(file: &[u8], q: u8) -> Found
+    requires laid { ⌜ Laid (now file) × (length (now file) ≤ 50700) × (7 ≤ q) ⌝ }
+    requires known { ⌜ Ready (now file) q ⌝ }
+    ensures { λ r. ⌜ r ≡ firstIn (inPart q (now (file .entry))) (functions (now (file .entry))) 0 ⌝ }
+{
+    let functions = function_count(file);
+    let mut f = 0;
+    let mut start = 1 + functions;
+    while f < functions {
+        let n = count_of(file, f);
+        let a = 12 * start;
+        let e = 12 * (start + n);
+        if let Found::At(place, item) = shift_by(answer_in(file, q, f, &file[a..e], n), origin(q, f, start)) {
+            return Found::At(place, item);
+        }
+        start += n;
+        f += 1;
+    }
+    Found::Nothing
+}
+
+// Questions 7 to 14.
+fn check_parts(file: &[u8]) -> Answer
+    requires { ⌜ Laid (now file) × (length (now file) ≤ 50700) ⌝ }
+    ensures { λ r. ⌜ says r ≡ put (partQuestions (now (file .entry)) 8 7) ⌝ }
+{
+    let mut q = 7;
+    while q < 15 {
+        if let Found::At(place, item) = first_in_parts(file, q) {
+            return Answer::Refused {
+                question: q,
+                place,
+                item,
+            };
+        }
+        q += 1;
+    }
+    Answer::Accepted
+}
+
+// Questions 4 to 14.
+fn check_functions(file: &[u8]) -> Answer
+    requires { ⌜ (36 ≤ length (now file)) × (headerOk (now file) ≡ true) × (recordsOk (now file) ≡ true) ⌝ }
+    ensures { λ r. ⌜ says r ≡ put (fromFour (now (file .entry))) ⌝ }
+{
+    let functions = function_count(file);
+    if let Found::At(f, item) = shape::first_function(file, functions) {
+        return Answer::Refused {
+            question: 4,
+            place: 1 + f,
+            item,
+        };
+    }
+    if !header::sum_ok(file, functions) {
+        return Answer::Refused {
+            question: 5,
+            place: 0,
+            item: 0,
+        };
+    }
+    if !header::main_ok(file) {
+        return Answer::Refused {
+            question: 6,
+            place: 1,
+            item: 0,
+        };
+    }
+    check_parts(file)
+}
+
+// Whether the file passes questions 1 to 14; else the first question that it fails, with its place and item.
+pub fn check(file: &[u8]) -> Answer
+    ensures { λ r. ⌜ says r ≡ checkOf (now (file .entry)) ⌝ }
+{
+    let len = file.len();
+    if len % 12 != 0 {
+        return Answer::Refused {
+            question: 1,
+            place: 0,
+            item: 0,
+        };
+    }
+    if len < 36 {
+        return Answer::Refused {
+            question: 1,
+            place: 0,
+            item: 0,
+        };
+    }
+    if !header::header_ok(file) {
+        return Answer::Refused {
+            question: 2,
+            place: 0,
+            item: 0,
+        };
+    }
+    if !header::records_ok(file) {
+        return Answer::Refused {
+            question: 3,
+            place: 0,
+            item: 0,
+        };
+    }
+    check_functions(file)
+}
