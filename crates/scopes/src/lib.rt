@@ -8,12 +8,13 @@ use records::vars_of;
 use records::wide;
 use varset::VarSet;
 ghost use mathlib.Core.Path.{_≡_};
+ghost use mathlib.Core.Bool.{true};
 ghost use Prim.Native.Nat.{ℕ, _+_, _*_, _≤_, _<_};
 ghost use lib.ListN.{length};
 ghost use Rattle.varset.specs.Lowest.{lowest};
 ghost use Rattle.records.specs.Fields.{paramsOf, varsOf, kindAt, bAt};
 ghost use Rattle.records.specs.Search.{firstOf};
-ghost use Rattle.language.specs.Scopes.{under};
+ghost use Rattle.language.specs.Scopes.{under, usesVariable};
 ghost use Rattle.language.specs.Nodes.{undeclared, firstUndeclared, outside};
 ghost use Rattle.language.specs.Known.{Known};
 ghost use Rattle.scopes.specs.Counts.{Counts, Decls};
@@ -113,29 +114,36 @@ fn is_under(part: &[u8], d: usize, j: usize) -> bool
     (j < d) & (d < j + size_at(part, d))
 }
 
-// Whether node i of a part of n nodes uses or assigns a variable from p on outside its decl.
-fn is_outside(file: &[u8], f: usize, part: &[u8], n: usize, decls: &[usize; 64], i: usize) -> bool
+// Whether node i of a part of n nodes, which uses or assigns a variable, does so outside its decl.
+fn strays(file: &[u8], f: usize, part: &[u8], n: usize, decls: &[usize; 64], i: usize) -> bool
     requires laid { ⌜ 12 * (1 + f) + 12 ≤ length (now file) ⌝ }
     requires inside { ⌜ (12 * n ≤ length (now part)) × (i < n) ⌝ }
-    requires narrow { ⌜ ((kindAt (now part) i ≡ 2 → bAt (now part) i < 64) × (kindAt (now part) i ≡ 8 → bAt (now part) i < 64)) ⌝ }
+    requires uses { ⌜ (usesVariable (kindAt (now part) i) ≡ true) × (bAt (now part) i < 64) ⌝ }
     requires told { ⌜ Decls (now part) n (now decls) ⌝ }
     ensures { λ r. ⌜ r ≡ outside (now (file .entry)) f (now (part .entry)) n i ⌝ }
 {
-    let kind = kind_at(part, i);
-    let uses = match kind {
-        2 => true,
-        8 => true,
-        _ => false,
-    };
-    if !uses {
-        return false;
-    }
     let x = b_at(part, i);
     if x < wide(params_of(file, f)) {
         return false;
     }
     let d = decls[x as usize];
     !is_under(part, d, i)
+}
+
+// Whether node i of a part of n nodes uses or assigns a variable from p on outside its decl.
+fn is_outside(file: &[u8], f: usize, part: &[u8], n: usize, decls: &[usize; 64], i: usize) -> bool
+    requires laid { ⌜ 12 * (1 + f) + 12 ≤ length (now file) ⌝ }
+    requires inside { ⌜ (12 * n ≤ length (now part)) × (i < n) ⌝ }
+    requires known { ⌜ Known (now part) n ⌝ }
+    requires told { ⌜ Decls (now part) n (now decls) ⌝ }
+    ensures { λ r. ⌜ r ≡ outside (now (file .entry)) f (now (part .entry)) n i ⌝ }
+{
+    let kind = kind_at(part, i);
+    match kind {
+        2 => strays(file, f, part, n, decls, i),
+        8 => strays(file, f, part, n, decls, i),
+        _ => false,
+    }
 }
 
 // The lowest node of function f's part, of n nodes, that uses or assigns a variable outside its decl.

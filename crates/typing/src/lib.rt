@@ -68,7 +68,10 @@ fn type_of(file: &[u8], f: usize, part: &[u8], n: usize, decls: &[usize; 64], i:
         2 => var_type(file, f, part, n, decls, b_at(part, i)),
         3 => operator_type(a_at(part, i)),
         4 => 2,
-        5 => result_of(file, b_at(part, i) as usize),
+        5 => {
+            let callee = b_at(part, i) as usize;
+            result_of(file, callee)
+        }
         15 => 0,
         _ => 255,
     }
@@ -101,7 +104,10 @@ fn want_of(
     match kind {
         3 => 1,
         4 => 2,
-        5 => param_type(file, b_at(part, i) as usize, k),
+        5 => {
+            let callee = b_at(part, i) as usize;
+            param_type(file, callee, k)
+        }
         8 => var_type(file, f, part, n, decls, b_at(part, i)),
         10 => condition_type(k),
         11 => condition_type(k),

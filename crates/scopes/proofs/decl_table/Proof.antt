@@ -1,55 +1,49 @@
+use mathlib.Core.Logic.{⊎-elim}
+use mathlib.Core.Path.{_≡_, refl, sym, _∙_}
+use Prim.Native.Nat.{_≤_, _-_}
+use native.Mathlib.Nat.{le-antisymm}
+use lib.ListN.{length}
+use borrow.Author.Needs.{needs}
+use Rattle.scopes.proofs.Decls.{decls-none, decls-other, decls-more, decl-known}
+use Rattle.scopes.specs.Counts.{Decls}
 use Rattle.scopes.proofs.decl_table.Statement.{statement}
 use Rattle.scopes.proofs.decl_table.Tie as tie
-use Rattle.scopes.proofs.decl_table.Reads as reads
-use Rattle.scopes.proofs.decl_table.Lts as lts
-use Rattle.records.proofs.b_at.Reads as b-at-reads
-use Rattle.records.proofs.kind_at.Reads as kind-at-reads
 
 abbrev Inv-loop : tie.InvT-loop
-Inv-loop part n table₀ i₀ table i = ?
+Inv-loop part n table₀ i₀ table i = (i ≤ n) × ((length table ≡ 64) × Decls part i table)
 
 abbrev μ-loop : tie.MeasureT-loop
-μ-loop part n table₀ i₀ table i = ?
+μ-loop part n table₀ i₀ table i = n - i
 
--- src/lib.rt:89:5
 loop-holds : tie.Need-loop-holds Inv-loop μ-loop
-loop-holds c = ?
+loop-holds c = (search needs, (refl, decls-none _))
 
--- src/lib.rt:90:12
 kind-at-requires : tie.Need-kind-at-requires Inv-loop μ-loop
-kind-at-requires c κs = ?
+kind-at-requires c κs = search needs
 
--- src/lib.rt:91:21
 b-at-requires : tie.Need-b-at-requires Inv-loop μ-loop
-b-at-requires c κs = ?
+b-at-requires c κs = search needs
 
--- src/lib.rt:91:21
 cast-x : tie.Need-cast-x Inv-loop μ-loop
-cast-x c = ?
+cast-x c = search needs
 
--- src/lib.rt:92:13
 mul-table : tie.Need-mul-table Inv-loop μ-loop
-mul-table c = ?
+mul-table c = search needs
 
--- src/lib.rt:92:13
 array-write-table : tie.Need-array-write-table Inv-loop μ-loop
-array-write-table c = ?
+array-write-table c = rw (c .b-at .ensures) (decl-known _ _ _ (c .before .before .before .before .before .before .pre .1) (search needs) (sym (c .before .before .kind-at .ensures) ∙ c .before .if1 .taken))
 
--- src/lib.rt:94:9
 add-i : tie.Need-add-i Inv-loop μ-loop
-add-i c = ?
+add-i c = search needs
 
--- src/lib.rt:89:5
 loop-less : tie.Need-loop-less Inv-loop μ-loop
-loop-less c = ?
+loop-less c = search needs
 
--- src/lib.rt:89:5
 loop-again : tie.Need-loop-again Inv-loop μ-loop
-loop-again c = ?
+loop-again c = (search needs, ⊎-elim (λ w. decls-more _ (c .before .before .before .loop .table) _ _ _ (c .before .before .before .loop .inv .1) (sym (c .before .kind-at .ensures) ∙ w .0 .taken) (w .1 .ensures) (rw (w .1 .ensures) (decl-known _ _ _ (c .before .before .before .before .before .pre .1) (search needs) (sym (c .before .kind-at .ensures) ∙ w .0 .taken))) (w .2)) (λ w. decls-other _ _ _ _ (c .before .before .before .loop .inv .1) (λ e. w .0 .left (c .before .kind-at .ensures ∙ e)) (w .1)) (c .if1 .came))
 
--- src/lib.rt:82:1
 returns : tie.Need-returns Inv-loop μ-loop
-returns c = ?
+returns c = rw (le-antisymm (c .loop-test .left) (c .before .loop .inv .0)) (c .before .loop .inv .1 .1)
 
 pub decl-table-spec : {M : Type 1} → statement M
 decl-table-spec =

@@ -1,47 +1,40 @@
+use Prim.Native.Nat.{_≤_, _-_}
+use native.Mathlib.Nat.{le-antisymm}
+use borrow.Author.Needs.{needs}
+use Rattle.scopes.proofs.Decls.{counts-none, decl-known}
+use Rattle.scopes.specs.Counts.{Counts}
 use Rattle.scopes.proofs.declared_in.Statement.{statement}
 use Rattle.scopes.proofs.declared_in.Tie as tie
-use Rattle.scopes.proofs.declared_in.Reads as reads
-use Rattle.scopes.proofs.declared_in.Lts as lts
-use Rattle.scopes.proofs.count_decl.Reads as count-decl-reads
-use Rattle.varset.proofs.VarSet.empty.Reads as empty-reads
 
 abbrev Inv-loop : tie.InvT-loop
-Inv-loop part n d₀ i₀ d i = ?
+Inv-loop part n d₀ i₀ d i = (i ≤ n) × Counts part i d
 
 abbrev μ-loop : tie.MeasureT-loop
-μ-loop part n d₀ i₀ d i = ?
+μ-loop part n d₀ i₀ d i = n - i
 
--- src/lib.rt:55:15
 empty-requires : tie.Need-empty-requires Inv-loop μ-loop
-empty-requires c κs = ?
+empty-requires c κs = search needs
 
--- src/lib.rt:56:16
 empty-requires-2 : tie.Need-empty-requires-2 Inv-loop μ-loop
-empty-requires-2 c κs = ?
+empty-requires-2 c κs = search needs
 
--- src/lib.rt:59:5
 loop-holds : tie.Need-loop-holds Inv-loop μ-loop
-loop-holds c = ?
+loop-holds c = (search needs, counts-none _ _ (c .before .empty .ensures) (c .empty2 .ensures))
 
--- src/lib.rt:60:9
 count-decl-requires : tie.Need-count-decl-requires Inv-loop μ-loop
-count-decl-requires c κs = ?
+count-decl-requires c κs = (search needs, (decl-known _ _ _ (c .before .before .before .before .before .pre .1) (search needs), c .before .loop .inv .1))
 
--- src/lib.rt:61:9
 add-i : tie.Need-add-i Inv-loop μ-loop
-add-i c = ?
+add-i c = search needs
 
--- src/lib.rt:59:5
 loop-less : tie.Need-loop-less Inv-loop μ-loop
-loop-less c = ?
+loop-less c = search needs
 
--- src/lib.rt:59:5
 loop-again : tie.Need-loop-again Inv-loop μ-loop
-loop-again c = ?
+loop-again c = (search needs, c .count-decl .ensures)
 
--- src/lib.rt:49:1
 returns : tie.Need-returns Inv-loop μ-loop
-returns c = ?
+returns c = rw (le-antisymm (c .loop-test .left) (c .before .loop .inv .0)) (c .before .loop .inv .1)
 
 pub declared-in-spec : {M : Type 1} → statement M
 declared-in-spec =

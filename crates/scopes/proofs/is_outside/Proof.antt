@@ -1,70 +1,31 @@
+use mathlib.Core.Path.{refl, sym, _∙_}
 use borrow.Author.Needs.{needs}
+use Rattle.language.specs.Scopes.{usesVariable}
+use Rattle.scopes.proofs.Decls.{use-known, no-use}
 use Rattle.scopes.proofs.is_outside.Statement.{statement}
 use Rattle.scopes.proofs.is_outside.Tie as tie
-use Rattle.scopes.proofs.is_outside.Reads as reads
-use Rattle.scopes.proofs.is_outside.Lts as lts
-use Rattle.records.proofs.b_at.Reads as b-at-reads
-use Rattle.records.proofs.kind_at.Reads as kind-at-reads
-use Rattle.records.proofs.params_of.Reads as params-of-reads
-use Rattle.records.proofs.wide.Reads as wide-reads
-use Rattle.scopes.proofs.is_under.Reads as is-under-reads
 
--- src/lib.rt:115:9
 kind-at-requires : tie.Need-kind-at-requires
 kind-at-requires c κs = search needs
 
--- src/lib.rt:122:9
+strays-requires : tie.Need-strays-requires
+unfolding usesVariable
+strays-requires c κs = (search needs, (search needs, (use-known _ _ _ 2 (c .before .before .before .before .pre .1 .1 .0) (search needs) (sym (c .before .kind-at .ensures) ∙ c .match .keys1) refl, c .before .before .before .before .pre .1 .1 .1)))
+
+strays-requires-2 : tie.Need-strays-requires-2
+unfolding usesVariable
+strays-requires-2 c κs = (search needs, (search needs, (use-known _ _ _ 8 (c .before .before .before .before .pre .1 .1 .0) (search needs) (sym (c .before .kind-at .ensures) ∙ c .match .keys2) refl, c .before .before .before .before .pre .1 .1 .1)))
+
 returns : tie.Need-returns
-returns c = ?
+returns c = search needs
 
--- src/lib.rt:124:9
-b-at-requires : tie.Need-b-at-requires
-b-at-requires c κs = search needs
-
--- src/lib.rt:125:17
-params-of-requires : tie.Need-params-of-requires
-params-of-requires c κs = search needs
-
--- src/lib.rt:125:12
-wide-requires : tie.Need-wide-requires
-wide-requires c κs = search needs
-
--- src/lib.rt:126:9
 returns-2 : tie.Need-returns-2
-returns-2 c = ?
+returns-2 c = search needs
 
--- src/lib.rt:128:19
-cast-d : tie.Need-cast-d
-cast-d c = search needs
-
--- src/lib.rt:128:13
-mul-d : tie.Need-mul-d
-mul-d c = search needs
-
--- src/lib.rt:128:13
-element-copy-out-d : tie.Need-element-copy-out-d
-element-copy-out-d c = ?
-
--- src/lib.rt:129:6
-is-under-requires : tie.Need-is-under-requires
-is-under-requires c κs = ?
-
--- src/lib.rt:108:1
 returns-3 : tie.Need-returns-3
-returns-3 c = ?
+returns-3 c = no-use _ _ _ _ _ (λ e. c .match .rest .0 .1 (c .before .kind-at .ensures ∙ e)) (λ e. c .match .rest .1 (c .before .kind-at .ensures ∙ e))
 
 pub is-outside-spec : {M : Type 1} → statement M
 is-outside-spec =
     tie.close
-    (tie.spec
-    kind-at-requires
-    returns
-    b-at-requires
-    params-of-requires
-    wide-requires
-    returns-2
-    cast-d
-    mul-d
-    element-copy-out-d
-    is-under-requires
-    returns-3)
+    (tie.spec kind-at-requires strays-requires strays-requires-2 returns returns-2 returns-3)
