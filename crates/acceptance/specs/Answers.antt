@@ -1,6 +1,5 @@
 -- The check's answer in the paper's numbers.
-use mathlib.Core.List.{List, [], _∷_}
-use Prim.Native.Nat.{ℕ}
+use Prim.Native.Nat.{ℕ, _<_}
 use Rattle.language.specs.Check.{Verdict, accepted, refused}
 use Rattle.acceptance.specs.declared.Answer.{Answer}
 use Rattle.acceptance.specs.declared.Answer.the-variants.{Accepted, Refused}
@@ -9,3 +8,8 @@ use Rattle.acceptance.specs.declared.Answer.the-variants.{Accepted, Refu
 unfoldable pub says : Answer → Verdict
 says Accepted = accepted
 says (Refused question place item) = refused question place item
+
+-- a place is a record of the longest file, and an item a variable
+abbrev pub Small : Answer → Type 0
+Small Accepted = Unit {0}
+Small (Refused question place item) = (place < 4225) × (item < 64)

@@ -14,7 +14,7 @@ ghost use Rattle.language.specs.Records.{headerOk, recordsOk};
 ghost use Rattle.language.specs.Nodes.{answers};
 ghost use Rattle.language.specs.Check.{put, partQuestions, inPart, checkOf};
 ghost use Rattle.language.specs.Known.{Known, Calls};
-ghost use Rattle.acceptance.specs.Answers.{says};
+ghost use Rattle.acceptance.specs.Answers.{says, Small};
 ghost use Rattle.acceptance.specs.Stages.{fromFour, Ready};
 
 // Accepted, or refused by question, place and item.
@@ -33,7 +33,7 @@ fn answer_in(file: &[u8], q: u8, f: usize, part: &[u8], n: usize) -> Found
     requires inside { ⌜ (12 * n ≤ length (now part)) × (1 ≤ n) × (n ≤ 4096) × (7 ≤ q) ⌝ }
     requires known { ⌜ (9 < q → Known (now part) n × Calls (functions (now file)) (now part) n) ⌝ }
     ensures exact { λ r. ⌜ r ≡ getD (answers (now (file .entry)) f (now (part .entry)) n) (q - 7) Found.Nothing ⌝ }
-    ensures within { λ r. ⌜ ((i x : ℕ) → r ≡ Found.At i x → i < n) ⌝ }
+    ensures small { λ r. ⌜ ((i x : ℕ) → r ≡ Found.At i x → (i < n) × (x < 64)) ⌝ }
 {
     match q {
         7 => shape::first_node(file, f, part, n, 7),
@@ -64,7 +64,8 @@ fn origin(q: u8, f: usize, start: usize) -> usize
 fn first_in_parts(file: &[u8], q: u8) -> Found
     requires laid { ⌜ Laid (now file) × (length (now file) ≤ 50700) × (7 ≤ q) ⌝ }
     requires known { ⌜ Ready (now file) q ⌝ }
-    ensures { λ r. ⌜ r ≡ firstIn (inPart q (now (file .entry))) (functions (now (file .entry))) 0 ⌝ }
+    ensures exact { λ r. ⌜ r ≡ firstIn (inPart q (now (file .entry))) (functions (now (file .entry))) 0 ⌝ }
+    ensures small { λ r. ⌜ ((i x : ℕ) → r ≡ Found.At i x → (i < 4225) × (x < 64)) ⌝ }
 {
     let functions = function_count(file);
     let mut f = 0;
@@ -85,7 +86,8 @@ fn first_in_parts(file: &[u8], q: u8) -> Found
 // Questions 7 to 14.
 fn check_parts(file: &[u8]) -> Answer
     requires { ⌜ Laid (now file) × (length (now file) ≤ 50700) ⌝ }
-    ensures { λ r. ⌜ says r ≡ put (partQuestions (now (file .entry)) 8 7) ⌝ }
+    ensures exact { λ r. ⌜ says r ≡ put (partQuestions (now (file .entry)) 8 7) ⌝ }
+    ensures small { λ r. ⌜ Small r ⌝ }
 {
     let mut q = 7;
     while q < 15 {
@@ -104,7 +106,8 @@ fn check_parts(file: &[u8]) -> Answer
 // Questions 4 to 14.
 fn check_functions(file: &[u8]) -> Answer
     requires { ⌜ (36 ≤ length (now file)) × (headerOk (now file) ≡ true) × (recordsOk (now file) ≡ true) ⌝ }
-    ensures { λ r. ⌜ says r ≡ put (fromFour (now (file .entry))) ⌝ }
+    ensures exact { λ r. ⌜ says r ≡ put (fromFour (now (file .entry))) ⌝ }
+    ensures small { λ r. ⌜ Small r ⌝ }
 {
     let functions = function_count(file);
     if let Found::At(f, item) = shape::first_function(file, functions) {
@@ -133,7 +136,8 @@ fn check_functions(file: &[u8]) -> Answer
 
 // Whether the file passes questions 1 to 14; else the first question that it fails, with its place and item.
 pub fn check(file: &[u8]) -> Answer
-    ensures { λ r. ⌜ says r ≡ checkOf (now (file .entry)) ⌝ }
+    ensures exact { λ r. ⌜ says r ≡ checkOf (now (file .entry)) ⌝ }
+    ensures small { λ r. ⌜ Small r ⌝ }
 {
     let len = file.len();
     if len % 12 != 0 {

@@ -1,5 +1,5 @@
 -- The statement at a node, level by level: each kind's, from the statements and reads at its children. No shape is asked for.
-use mathlib.Core.Path.{_≡_, refl, sym, ap, _∙_}
+use mathlib.Core.Path.{_≡_, refl}
 use mathlib.Core.Bool.{Bool, true, false, _&&_}
 use mathlib.Core.List.{List, [], _∷_}
 use Prim.Native.Nat.{ℕ, zero, suc, _+_, _-_, _≤_, _<_}
@@ -7,7 +7,7 @@ use native.Mathlib.Nat.{not-suc-le-zero, le-of-suc-le-suc, le-trans, le-refl, su
 use native.Mathlib.Omega.{arith}
 use lib.Dec.{eqb, leb, ltb, T}
 use borrow.Author.Tests.{lt-leb, le-ltb}
-use mathlib.Core.Logic.{_⊎_, inl, inr, ⊎-elim}
+use mathlib.Core.Logic.{_⊎_, inl, inr}
 use lib.ListN.{getD}
 use Rattle.varset.specs.Lowest.{pick}
 use Rattle.varset.specs.Sets.{Set, without}
@@ -15,7 +15,7 @@ use Rattle.records.specs.Fields.{kindAt, bAt, sizeAt}
 use Rattle.records.specs.Search.{orElse}
 use Rattle.records.specs.declared.Found.{Found}
 use Rattle.records.specs.declared.Found.the-variants.{At, Nothing}
-use Rattle.language.specs.Statements.{Shape, nop, seq, assign, decl, if, while, return, assert, expr, stray, prior, last, shapes, shapeAt, Read, read, readsFrom, readsOf, Statement, Nop, Seq, Assign, Decl, If, While, Return, Assert, Expr, grow, statementIn, statementAt}
+use Rattle.language.specs.Statements.{Shape, stray, prior, last, shapes, shapeAt, read, readsFrom, readsOf, Statement, Nop, Seq, Assign, Decl, If, While, Return, Assert, Expr, grow, statementIn, statementAt}
 use Rattle.language.specs.Flow.{leaves, missing, lacks}
 use Rattle.language.specs.Known.{Known}
 

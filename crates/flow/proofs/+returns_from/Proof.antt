@@ -1,3 +1,10 @@
+use mathlib.Core.Path.{sym, _∙_}
+use native.Mathlib.Omega.{arith}
+use lib.Dec.{lit<, lit≤}
+use borrow.Author.Needs.{needs}
+use Rattle.language.specs.Statements.{prior, last}
+use Rattle.language.proofs.Rules.{returns-return, returns-seq, returns-if, returns-decl, returns-rest}
+use Rattle.flow.proofs.Walks.{inner, descend}
 use Prim.Native.Nat.{ℕ, _<_}
 use borrow.Fn.Kinds.{In}
 use borrow.Fn.PlainCycle.{Measures, is, falls, and}
@@ -10,7 +17,7 @@ use Rattle.flow.proofs.+returns_from.{statement}
 use Rattle.flow.proofs.+returns_from.Tie.{close}
 
 abbrev μ-returns-from : Measures 1 returns-from-kinds.ps ℕ
-μ-returns-from κs a = ?
+μ-returns-from κs a = a .1 .1 .0
 
 abbrev returns-from-at : ℕ → In 1 returns-from-kinds.ps
 returns-from-at t =
@@ -24,191 +31,62 @@ returns-from-below t =
     (falls 1 returns-from-kinds.ps _<_ μ-returns-from t)
     returns-from.Pre
 
--- src/lib.rt:184:9
-returns-from-kind-at-requires : (t : ℕ) → returns-from-lts.Need-kind-at-requires (
-  kind-at-reads.Asked,
-  kind-at-reads.Learnt,
-  prior-reads.Asked,
-  prior-reads.Learnt,
-  returns-from-below t,
-  returns-from.Post,
-) (returns-from-at t) returns-from.Post
-returns-from-kind-at-requires t c κs = ?
+abbrev claims : ℕ → returns-from-lts.Claims
+claims t = (kind-at-reads.Asked, kind-at-reads.Learnt, prior-reads.Asked, prior-reads.Learnt, returns-from-below t, returns-from.Post)
 
--- src/lib.rt:187:21
-returns-from-sub-b : (t : ℕ) → returns-from-lts.Need-sub-b (
-  kind-at-reads.Asked,
-  kind-at-reads.Learnt,
-  prior-reads.Asked,
-  prior-reads.Learnt,
-  returns-from-below t,
-  returns-from.Post,
-) (returns-from-at t) returns-from.Post
-returns-from-sub-b t c = ?
+returns-from-kind-at-requires : (t : ℕ) → returns-from-lts.Need-kind-at-requires (claims t) (returns-from-at t) returns-from.Post
+returns-from-kind-at-requires t c κs = search needs
 
--- src/lib.rt:188:17
-returns-from-prior-requires : (t : ℕ) → returns-from-lts.Need-prior-requires (
-  kind-at-reads.Asked,
-  kind-at-reads.Learnt,
-  prior-reads.Asked,
-  prior-reads.Learnt,
-  returns-from-below t,
-  returns-from.Post,
-) (returns-from-at t) returns-from.Post
-returns-from-prior-requires t c κs = ?
+returns-from-sub-b : (t : ℕ) → returns-from-lts.Need-sub-b (claims t) (returns-from-at t) returns-from.Post
+returns-from-sub-b t c = inner 7 (c .before .before .before .pre .1 .1) (search needs) (sym (c .before .kind-at .ensures) ∙ c .match .keys1) (lit≤ tt) (lit< tt)
 
--- src/lib.rt:189:17
-returns-from-returns-from-requires : (t : ℕ) → returns-from-lts.Need-returns-from-requires (
-  kind-at-reads.Asked,
-  kind-at-reads.Learnt,
-  prior-reads.Asked,
-  prior-reads.Learnt,
-  returns-from-below t,
-  returns-from.Post,
-) (returns-from-at t) returns-from.Post
-returns-from-returns-from-requires t c κs = ?
+returns-from-prior-requires : (t : ℕ) → returns-from-lts.Need-prior-requires (claims t) (returns-from-at t) returns-from.Post
+returns-from-prior-requires t c κs = search needs
 
--- src/lib.rt:190:21
-returns-from-returns-from-requires-2 : (t : ℕ) → returns-from-lts.Need-returns-from-requires-2 (
-  kind-at-reads.Asked,
-  kind-at-reads.Learnt,
-  prior-reads.Asked,
-  prior-reads.Learnt,
-  returns-from-below t,
-  returns-from.Post,
-) (returns-from-at t) returns-from.Post
-returns-from-returns-from-requires-2 t c κs = ?
+returns-from-returns-from-requires : (t : ℕ) → returns-from-lts.Need-returns-from-requires (claims t) (returns-from-at t) returns-from.Post
+returns-from-returns-from-requires t c κs = descend (c .before .before .before .before .pre) (omega (arith, returns-from-sub-b t (c .before)))
 
--- src/lib.rt:192:36
-returns-from-sub-returns-from : (t : ℕ) → returns-from-lts.Need-sub-returns-from (
-  kind-at-reads.Asked,
-  kind-at-reads.Learnt,
-  prior-reads.Asked,
-  prior-reads.Learnt,
-  returns-from-below t,
-  returns-from.Post,
-) (returns-from-at t) returns-from.Post
-returns-from-sub-returns-from t c = ?
+returns-from-returns-from-requires-2 : (t : ℕ) → returns-from-lts.Need-returns-from-requires-2 (claims t) (returns-from-at t) returns-from.Post
+returns-from-returns-from-requires-2 t c κs = descend (c .before .before .before .before .before .pre) (omega (arith, returns-from-sub-b t (c .before .before)))
 
--- src/lib.rt:192:14
-returns-from-returns-from-requires-3 : (t : ℕ) → returns-from-lts.Need-returns-from-requires-3 (
-  kind-at-reads.Asked,
-  kind-at-reads.Learnt,
-  prior-reads.Asked,
-  prior-reads.Learnt,
-  returns-from-below t,
-  returns-from.Post,
-) (returns-from-at t) returns-from.Post
-returns-from-returns-from-requires-3 t c κs = ?
+returns-from-sub-returns-from : (t : ℕ) → returns-from-lts.Need-sub-returns-from (claims t) (returns-from-at t) returns-from.Post
+returns-from-sub-returns-from t c = inner 9 (c .before .before .before .pre .1 .1) (search needs) (sym (c .before .kind-at .ensures) ∙ c .match .keys2) (lit≤ tt) (lit< tt)
 
--- src/lib.rt:194:21
-returns-from-sub-b-2 : (t : ℕ) → returns-from-lts.Need-sub-b-2 (
-  kind-at-reads.Asked,
-  kind-at-reads.Learnt,
-  prior-reads.Asked,
-  prior-reads.Learnt,
-  returns-from-below t,
-  returns-from.Post,
-) (returns-from-at t) returns-from.Post
-returns-from-sub-b-2 t c = ?
+returns-from-returns-from-requires-3 : (t : ℕ) → returns-from-lts.Need-returns-from-requires-3 (claims t) (returns-from-at t) returns-from.Post
+returns-from-returns-from-requires-3 t c κs = descend (c .before .before .before .pre) (omega (arith, returns-from-sub-returns-from t c))
 
--- src/lib.rt:195:17
-returns-from-prior-requires-2 : (t : ℕ) → returns-from-lts.Need-prior-requires-2 (
-  kind-at-reads.Asked,
-  kind-at-reads.Learnt,
-  prior-reads.Asked,
-  prior-reads.Learnt,
-  returns-from-below t,
-  returns-from.Post,
-) (returns-from-at t) returns-from.Post
-returns-from-prior-requires-2 t c κs = ?
+returns-from-sub-b-2 : (t : ℕ) → returns-from-lts.Need-sub-b-2 (claims t) (returns-from-at t) returns-from.Post
+returns-from-sub-b-2 t c = inner 10 (c .before .before .before .pre .1 .1) (search needs) (sym (c .before .kind-at .ensures) ∙ c .match .keys3) (lit≤ tt) (lit< tt)
 
--- src/lib.rt:196:17
-returns-from-returns-from-requires-4 : (t : ℕ) → returns-from-lts.Need-returns-from-requires-4 (
-  kind-at-reads.Asked,
-  kind-at-reads.Learnt,
-  prior-reads.Asked,
-  prior-reads.Learnt,
-  returns-from-below t,
-  returns-from.Post,
-) (returns-from-at t) returns-from.Post
-returns-from-returns-from-requires-4 t c κs = ?
+returns-from-prior-requires-2 : (t : ℕ) → returns-from-lts.Need-prior-requires-2 (claims t) (returns-from-at t) returns-from.Post
+returns-from-prior-requires-2 t c κs = search needs
 
--- src/lib.rt:197:21
-returns-from-returns-from-requires-5 : (t : ℕ) → returns-from-lts.Need-returns-from-requires-5 (
-  kind-at-reads.Asked,
-  kind-at-reads.Learnt,
-  prior-reads.Asked,
-  prior-reads.Learnt,
-  returns-from-below t,
-  returns-from.Post,
-) (returns-from-at t) returns-from.Post
-returns-from-returns-from-requires-5 t c κs = ?
+returns-from-returns-from-requires-4 : (t : ℕ) → returns-from-lts.Need-returns-from-requires-4 (claims t) (returns-from-at t) returns-from.Post
+returns-from-returns-from-requires-4 t c κs = descend (c .before .before .before .before .pre) (omega (arith, returns-from-sub-b-2 t (c .before)))
 
--- src/lib.rt:179:1
-returns-from-returns : (t : ℕ) → returns-from-lts.Need-returns (
-  kind-at-reads.Asked,
-  kind-at-reads.Learnt,
-  prior-reads.Asked,
-  prior-reads.Learnt,
-  returns-from-below t,
-  returns-from.Post,
-) (returns-from-at t) returns-from.Post
-returns-from-returns t c = ?
+returns-from-returns-from-requires-5 : (t : ℕ) → returns-from-lts.Need-returns-from-requires-5 (claims t) (returns-from-at t) returns-from.Post
+returns-from-returns-from-requires-5 t c κs = descend (c .before .before .before .before .before .pre) (omega (arith, returns-from-sub-b-2 t (c .before .before)))
 
--- src/lib.rt:179:1
-returns-from-returns-2 : (t : ℕ) → returns-from-lts.Need-returns-2 (
-  kind-at-reads.Asked,
-  kind-at-reads.Learnt,
-  prior-reads.Asked,
-  prior-reads.Learnt,
-  returns-from-below t,
-  returns-from.Post,
-) (returns-from-at t) returns-from.Post
-returns-from-returns-2 t c = ?
+returns-from-returns : (t : ℕ) → returns-from-lts.Need-returns (claims t) (returns-from-at t) returns-from.Post
+unfolding prior last
+returns-from-returns t c = rw (c .before .returns-from .ensures, c .returns-from2 .ensures, c .before .before .prior .ensures) (sym (returns-seq (c .before .before .before .before .before .before .args .part .now) (c .before .before .before .before .before .before .args .i) (sym (c .before .before .before .before .kind-at .ensures) ∙ c .before .before .before .match .keys1) (returns-from-sub-b t (c .before .before .before))))
 
--- src/lib.rt:179:1
-returns-from-returns-3 : (t : ℕ) → returns-from-lts.Need-returns-3 (
-  kind-at-reads.Asked,
-  kind-at-reads.Learnt,
-  prior-reads.Asked,
-  prior-reads.Learnt,
-  returns-from-below t,
-  returns-from.Post,
-) (returns-from-at t) returns-from.Post
-returns-from-returns-3 t c = ?
+returns-from-returns-2 : (t : ℕ) → returns-from-lts.Need-returns-2 (claims t) (returns-from-at t) returns-from.Post
+unfolding prior last
+returns-from-returns-2 t c = rw (c .returns-from3 .ensures) (sym (returns-decl (c .before .before .before .before .args .part .now) (c .before .before .before .before .args .i) (sym (c .before .before .kind-at .ensures) ∙ c .before .match .keys2) (returns-from-sub-returns-from t (c .before))))
 
--- src/lib.rt:179:1
-returns-from-returns-4 : (t : ℕ) → returns-from-lts.Need-returns-4 (
-  kind-at-reads.Asked,
-  kind-at-reads.Learnt,
-  prior-reads.Asked,
-  prior-reads.Learnt,
-  returns-from-below t,
-  returns-from.Post,
-) (returns-from-at t) returns-from.Post
-returns-from-returns-4 t c = ?
+returns-from-returns-3 : (t : ℕ) → returns-from-lts.Need-returns-3 (claims t) (returns-from-at t) returns-from.Post
+unfolding prior last
+returns-from-returns-3 t c = rw (c .before .returns-from4 .ensures, c .returns-from5 .ensures, c .before .before .prior2 .ensures) (sym (returns-if (c .before .before .before .before .before .before .args .part .now) (c .before .before .before .before .before .before .args .i) (sym (c .before .before .before .before .kind-at .ensures) ∙ c .before .before .before .match .keys3) (returns-from-sub-b-2 t (c .before .before .before))))
 
--- src/lib.rt:179:1
-returns-from-returns-5 : (t : ℕ) → returns-from-lts.Need-returns-5 (
-  kind-at-reads.Asked,
-  kind-at-reads.Learnt,
-  prior-reads.Asked,
-  prior-reads.Learnt,
-  returns-from-below t,
-  returns-from.Post,
-) (returns-from-at t) returns-from.Post
-returns-from-returns-5 t c = ?
+returns-from-returns-4 : (t : ℕ) → returns-from-lts.Need-returns-4 (claims t) (returns-from-at t) returns-from.Post
+returns-from-returns-4 t c = sym (returns-return (c .before .before .before .args .part .now) (c .before .before .before .args .i) (sym (c .before .kind-at .ensures) ∙ c .match .keys4) (inner 12 (c .before .before .before .pre .1 .1) (search needs) (sym (c .before .kind-at .ensures) ∙ c .match .keys4) (lit≤ tt) (lit< tt)))
+
+returns-from-returns-5 : (t : ℕ) → returns-from-lts.Need-returns-5 (claims t) (returns-from-at t) returns-from.Post
+returns-from-returns-5 t c = sym (returns-rest (c .before .before .before .args .part .now) (c .before .before .before .args .i) (λ e. c .match .rest .0 .0 .0 .1 (c .before .kind-at .ensures ∙ e)) (λ e. c .match .rest .0 .0 .1 (c .before .kind-at .ensures ∙ e)) (λ e. c .match .rest .0 .1 (c .before .kind-at .ensures ∙ e)) (λ e. c .match .rest .1 (c .before .kind-at .ensures ∙ e)))
 
 pub +returns-from-spec : {M : Type 1} → statement M
-+returns-from-spec = close μ-returns-from λ t. returns-from-lts.spec (
-  kind-at-reads.Asked,
-  kind-at-reads.Learnt,
-  prior-reads.Asked,
-  prior-reads.Learnt,
-  returns-from-below t,
-  returns-from.Post,
-)
++returns-from-spec = close μ-returns-from λ t. returns-from-lts.spec (claims t)
     (returns-from-at t)
     returns-from.Post
     (returns-from-kind-at-requires t)

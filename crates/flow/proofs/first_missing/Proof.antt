@@ -1,56 +1,52 @@
+use mathlib.Core.Path.{_≡_, refl, sym, _∙_}
+use Prim.Native.Nat.{_+_, _-_, _≤_}
+use borrow.Author.Needs.{needs}
+use Rattle.varset.specs.Sets.{has}
+use Rattle.language.specs.Statements.{readsFrom, readsOf}
+use Rattle.language.specs.Flow.{missing}
+use Rattle.language.specs.Scopes.{usesVariable}
+use Rattle.language.specs.Known.{namesVariable}
+use Rattle.flow.proofs.Walks.{named}
+use Rattle.flow.proofs.Expressions.{rest-all, rest-found, rest-on, rest-none}
 use Rattle.flow.proofs.first_missing.Statement.{statement}
 use Rattle.flow.proofs.first_missing.Tie as tie
-use Rattle.flow.proofs.first_missing.Reads as reads
-use Rattle.flow.proofs.first_missing.Lts as lts
-use Rattle.flow.proofs.reads_empty.Reads as reads-empty-reads
-use Rattle.records.proofs.minus.Reads as minus-reads
-use Rattle.records.proofs.size_at.Reads as size-at-reads
 
 abbrev Inv-loop : tie.InvT-loop
-Inv-loop part n e set i₀ i = ?
+Inv-loop part n e set i₀ i = (i ≤ e + 1) × (missing (readsFrom part (e + 1 - i) i) (has (set .0)) ≡ missing (readsOf part e) (has (set .0)))
 
 abbrev μ-loop : tie.MeasureT-loop
-μ-loop part n e set i₀ i = ?
+μ-loop part n e set i₀ i = e + 1 - i
 
--- src/lib.rt:44:23
 add-minus : tie.Need-add-minus Inv-loop μ-loop
-add-minus c = ?
+add-minus c = search needs
 
--- src/lib.rt:44:30
 size-at-requires : tie.Need-size-at-requires Inv-loop μ-loop
-size-at-requires c κs = ?
+size-at-requires c κs = search needs
 
--- src/lib.rt:44:9
 minus-requires : tie.Need-minus-requires Inv-loop μ-loop
-minus-requires c κs = ?
+minus-requires c κs = search needs
 
--- src/lib.rt:45:5
 loop-holds : tie.Need-loop-holds Inv-loop μ-loop
-loop-holds c = ?
+loop-holds c = (search needs, rest-all _ _ _ _ (c .before .before .before .pre .1 .sized _ (search needs)) (c .minus .ensures ∙ rw (c .before .size-at .ensures .0)))
 
--- src/lib.rt:46:12
 reads-empty-requires : tie.Need-reads-empty-requires Inv-loop μ-loop
-reads-empty-requires c κs = ?
+unfolding namesVariable usesVariable
+reads-empty-requires c κs = (search needs, λ e. named 2 (c .before .before .before .before .before .pre .1) (search needs) e refl)
 
--- src/lib.rt:47:13
 returns : tie.Need-returns Inv-loop μ-loop
-returns c = ?
+returns c = sym (rest-found _ _ _ _ _ (search needs) (c .before .reads-empty .ensures) (c .if1 .taken)) ∙ c .before .before .before .loop .inv .1
 
--- src/lib.rt:49:9
 add-i : tie.Need-add-i Inv-loop μ-loop
-add-i c = ?
+add-i c = search needs
 
--- src/lib.rt:45:5
 loop-less : tie.Need-loop-less Inv-loop μ-loop
-loop-less c = ?
+loop-less c = search needs
 
--- src/lib.rt:45:5
 loop-again : tie.Need-loop-again Inv-loop μ-loop
-loop-again c = ?
+loop-again c = (search needs, sym (rest-on _ _ _ _ _ (search needs) (c .before .reads-empty .ensures) (c .if1 .left)) ∙ c .before .before .before .loop .inv .1)
 
--- src/lib.rt:39:1
 returns-2 : tie.Need-returns-2 Inv-loop μ-loop
-returns-2 c = ?
+returns-2 c = sym (rest-none _ _ _ _ (search needs)) ∙ c .before .loop .inv .1
 
 pub first-missing-spec : {M : Type 1} → statement M
 first-missing-spec =

@@ -1,31 +1,23 @@
+use borrow.Author.Tests.{ne-eqb}
+use mathlib.Core.Path.{sym, _∙_}
 use borrow.Author.Needs.{needs}
 use Rattle.flow.proofs.reads_empty.Statement.{statement}
 use Rattle.flow.proofs.reads_empty.Tie as tie
-use Rattle.flow.proofs.reads_empty.Reads as reads
-use Rattle.flow.proofs.reads_empty.Lts as lts
-use Rattle.records.proofs.b_at.Reads as b-at-reads
-use Rattle.records.proofs.kind_at.Reads as kind-at-reads
-use Rattle.varset.proofs.VarSet.contains.Reads as contains-reads
 
--- src/lib.rt:31:8
 kind-at-requires : tie.Need-kind-at-requires
 kind-at-requires c κs = search needs
 
--- src/lib.rt:32:23
 b-at-requires : tie.Need-b-at-requires
 b-at-requires c κs = search needs
 
--- src/lib.rt:32:10
 contains-requires : tie.Need-contains-requires
-contains-requires c κs = ?
+contains-requires c κs = rw (c .b-at .ensures) (c .before .before .before .before .pre .1 (sym (c .before .before .kind-at .ensures) ∙ c .before .if1 .taken))
 
--- src/lib.rt:27:1
 returns : tie.Need-returns
-returns c = ?
+returns c = rw (c .contains .ensures, c .before .b-at .ensures, ← c .before .before .before .kind-at .ensures, c .before .before .if1 .taken)
 
--- src/lib.rt:27:1
 returns-2 : tie.Need-returns-2
-returns-2 c = ?
+returns-2 c = rw (← c .before .kind-at .ensures, ne-eqb _ 2 (c .if1 .left))
 
 pub reads-empty-spec : {M : Type 1} → statement M
 reads-empty-spec =
