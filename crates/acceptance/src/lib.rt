@@ -1,6 +1,8 @@
 // The check of a procedure file: questions 1 to 14 in order.
 use records::Found;
-use records::{count_of, function_count, shift_by};
+use records::count_of;
+use records::function_count;
+use records::shift_by;
 ghost use mathlib.Core.Path.{_≡_};
 ghost use mathlib.Core.Bool.{true, _||_};
 ghost use Prim.Native.Nat.{ℕ, _+_, _*_, _-_, _≤_, _<_};
@@ -74,7 +76,10 @@ fn first_in_parts(file: &[u8], q: u8) -> Found
         let n = count_of(file, f);
         let a = 12 * start;
         let e = 12 * (start + n);
-        if let Found::At(place, item) = shift_by(answer_in(file, q, f, &file[a..e], n), origin(q, f, start)) {
+        if let Found::At(place, item) = shift_by(
+            answer_in(file, q, f, &file[a..e], n),
+            origin(q, f, start),
+        ) {
             return Found::At(place, item);
         }
         start += n;

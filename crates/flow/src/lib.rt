@@ -93,8 +93,9 @@ fn in_scope(inner: Flow, x: u32) -> Flow
     let left = inner.left;
     let declared = inner.declared;
     let found = inner.found;
+    let after = left.remove(x);
     Flow {
-        left: left.remove(x),
+        left: after,
         declared: declared.insert(x),
         found,
     }
@@ -123,8 +124,9 @@ fn in_loop(lacking: Found, body: Flow, set: VarSet) -> Flow
 {
     let declared = body.declared;
     let found = body.found;
+    let kept = set.minus(declared);
     Flow {
-        left: set.minus(declared),
+        left: kept,
         declared,
         found: or_else(lacking, found),
     }
@@ -147,11 +149,13 @@ pub fn flow_from(part: &[u8], n: usize, i: usize, set: VarSet) -> Flow
         }
         8 => {
             let x = b_at(part, i);
-            plain(set.insert(x), first_missing(part, n, i - 1, set))
+            let after = set.insert(x);
+            plain(after, first_missing(part, n, i - 1, set))
         }
         9 => {
             let x = b_at(part, i);
-            in_scope(flow_from(part, n, i - 1, set.remove(x)), x)
+            let inside = set.remove(x);
+            in_scope(flow_from(part, n, i - 1, inside), x)
         }
         10 => {
             let b = i - 1;

@@ -70,7 +70,7 @@ none-shift : (k : ℕ) (a : Found) → a ≡ Nothing → shift k a ≡ Nothing
 unfolding shift
 none-shift k a e = rw e
 
-all-pass : (p : ℕ → Bool) (n : ℕ) → firstOf (λ i. not (p i)) n ≡ Nothing → (i : ℕ) → i < n → p i ≡ true
+pub all-pass : (p : ℕ → Bool) (n : ℕ) → firstOf (λ i. not (p i)) n ≡ Nothing → (i : ℕ) → i < n → p i ≡ true
 all-pass p n e i h = not-false (p i) (none-found (λ i. not (p i)) n e i h)
 
 pass-all : (p : ℕ → Bool) (n : ℕ) → ((i : ℕ) → i < n → p i ≡ true) → firstOf (λ i. not (p i)) n ≡ Nothing
@@ -98,7 +98,7 @@ none-first t (suc m) f h = rw (h f (omega arith) (omega arith)) (none-first t m 
 
 -- ---- what each of questions 7 to 14 finds in a function
 module _ (s : List ℕ) (f : ℕ) where
-  abbrev Finds : ℕ → Found
+  abbrev pub Finds : ℕ → Found
   Finds q = getD (answers s f (partOf s f) (countOf s f)) (q - 7) Nothing
 
   in-part : (q : ℕ) → inPart q s f ≡ Nothing → Finds q ≡ Nothing
@@ -109,7 +109,7 @@ module _ (s : List ℕ) (f : ℕ) where
   unfolding inPart
   part-in q e = none-shift (originOf q s f) (Finds q) e
 
-asked-none : (s : List ℕ) (q : ℕ) → firstIn (inPart q s) (functions s) 0 ≡ Nothing → (f : ℕ) → f < functions s → Finds s f q ≡ Nothing
+pub asked-none : (s : List ℕ) (q : ℕ) → firstIn (inPart q s) (functions s) 0 ≡ Nothing → (f : ℕ) → f < functions s → Finds s f q ≡ Nothing
 asked-none s q e f h = in-part s f q (none-in (inPart q s) (functions s) 0 e f (omega arith) (omega arith))
 
 none-asked : (s : List ℕ) (q : ℕ) → ((f : ℕ) → f < functions s → Finds s f q ≡ Nothing) → firstIn (inPart q s) (functions s) 0 ≡ Nothing
@@ -161,7 +161,7 @@ accepted-is s e =
     }
 
 -- a statement of each number from 7 to 14
-seven-to-fourteen : (P : ℕ → Type 0) → P 7 → P 8 → P 9 → P 10 → P 11 → P 12 → P 13 → P 14 → (k : ℕ) → 7 ≤ k → k < 15 → P k
+pub seven-to-fourteen : (P : ℕ → Type 0) → P 7 → P 8 → P 9 → P 10 → P 11 → P 12 → P 13 → P 14 → (k : ℕ) → 7 ≤ k → k < 15 → P k
 seven-to-fourteen P a b c d e f g h zero p q = absurd (omega arith)
 seven-to-fourteen P a b c d e f g h (suc zero) p q = absurd (omega arith)
 seven-to-fourteen P a b c d e f g h (suc (suc zero)) p q = absurd (omega arith)
@@ -213,7 +213,7 @@ module _ (s : List ℕ) (h : Accepted s) where
   parts = laid s header (h .three) function (h .five)
 
   pub nodes-known : (f : ℕ) → f < functions s → Known (partOf s f) (countOf s f)
-  nodes-known f l = known s f (partOf s f) (countOf s f) function l (λ i. h .seven f i l) (λ i. h .eight f i l)
+  nodes-known f l = known s f (partOf s f) (countOf s f) parts l (λ i. h .seven f i l) (λ i. h .eight f i l)
 
   pub calls-known : (f : ℕ) → f < functions s → Calls (functions s) (partOf s f) (countOf s f)
-  calls-known f l = calls s f (partOf s f) (countOf s f) function l (λ i. h .seven f i l)
+  calls-known f l = calls s f (partOf s f) (countOf s f) parts l (λ i. h .seven f i l)

@@ -161,7 +161,7 @@ names-cases k e p q r =
     (λ o. or-cases (eqb k 2) (eqb k 8) o (λ u. p (eqb-true k 2 u)) (λ u. q (eqb-true k 8 u))) (λ u. r (eqb-true k 9 u))
 
 -- questions 7 and 8 of all nodes of a part
-module _ (s : List ℕ) (f : ℕ) (t : List ℕ) (n : ℕ) (g : (k : ℕ) → k < functions s → Function s k) (l : f < functions s)
+module _ (s : List ℕ) (f : ℕ) (t : List ℕ) (n : ℕ) (g : Laid s) (l : f < functions s)
     (seven : (i : ℕ) → i < n → nodeOk s f t i ≡ true) where
   at : (i : ℕ) → i < n → (k : ℕ) → kindAt t i ≡ k → fieldsOk s f k (aAt t i) (bAt t i) ≡ true
   at i h k e = rw e at (node-fields s f t i (seven i h))
@@ -176,9 +176,9 @@ module _ (s : List ℕ) (f : ℕ) (t : List ℕ) (n : ℕ) (g : (k : ℕ) → k 
         sized = λ i h. let z = sized-is t n i (eight i h) in omega (arith, z .size, z .inside);
         variable =
             λ i h e. names-cases (kindAt t i) e
-            (λ k. omega (arith, variable-fields s f (aAt t i) (bAt t i) (at i h 2 k), g f l .vars))
-            (λ k. omega (arith, assign-fields s f (aAt t i) (bAt t i) (at i h 8 k), g f l .vars))
-            (λ k. omega (arith, decl-fields s f (aAt t i) (bAt t i) (at i h 9 k) .2, g f l .vars));
+            (λ k. omega (arith, variable-fields s f (aAt t i) (bAt t i) (at i h 2 k), g .vars f l))
+            (λ k. omega (arith, assign-fields s f (aAt t i) (bAt t i) (at i h 8 k), g .vars f l))
+            (λ k. omega (arith, decl-fields s f (aAt t i) (bAt t i) (at i h 9 k) .2, g .vars f l));
         arguments =
-            λ i h e. let c = call-fields s f (aAt t i) (bAt t i) (at i h 5 e) in omega (arith, c .1, g (bAt t i) (c .0) .params);
+            λ i h e. let c = call-fields s f (aAt t i) (bAt t i) (at i h 5 e) in omega (arith, c .1, g .params (bAt t i) (c .0));
       }

@@ -7,3 +7,6 @@ pub mod Typings
 pub mod Positions
 pub mod Trees
 pub mod Rules
+pub mod Flows
+pub mod Subtrees
+pub mod Scoping

@@ -15,7 +15,7 @@ use Rattle.records.specs.Fields.{kindAt, bAt, sizeAt}
 use Rattle.records.specs.Search.{orElse}
 use Rattle.records.specs.declared.Found.{Found}
 use Rattle.records.specs.declared.Found.the-variants.{At, Nothing}
-use Rattle.language.specs.Statements.{Shape, stray, prior, last, shapes, shapeAt, read, readsFrom, readsOf, Statement, Nop, Seq, Assign, Decl, If, While, Return, Assert, Expr, grow, statementIn, statementAt}
+use Rattle.language.specs.Statements.{Shape, nop, seq, assign, decl, if, while, return, assert, expr, stray, prior, last, shapes, shapeAt, read, readsFrom, readsOf, Statement, Nop, Seq, Assign, Decl, If, While, Return, Assert, Expr, grow, statementIn, statementAt}
 use Rattle.language.specs.Flow.{leaves, missing, lacks}
 use Rattle.language.specs.Known.{Known}
 
@@ -29,6 +29,21 @@ each-at P [] h z k = z k
 each-at P (s ∷ ss) h z zero = h .0
 each-at P (s ∷ ss) h z (suc k) = each-at (λ k. P (suc k)) ss (h .1) (λ k. z (suc k)) k
 
+-- a property of each kind's shape
+by-shape : (t : List ℕ) (i : ℕ) (P : ℕ → Shape → Type 0) → ((k : ℕ) → P k stray) → P 6 nop
+    → P 7 (seq (prior t (last i)) (last i))
+    → P 8 (assign (bAt t i) (last i))
+    → P 9 (decl (bAt t i) (last i))
+    → P 10 (if (prior t (prior t (last i))) (prior t (last i)) (last i))
+    → P 11 (while (prior t (last i)) (last i))
+    → P 12 (return (last i))
+    → P 13 (assert (last i))
+    → P 14 (expr (last i))
+    → P (kindAt t i) (shapeAt t i)
+unfolding shapeAt shapes
+by-shape t i P z n s a d f w r c e =
+    each-at P (shapes t i) (z 0, (z 1, (z 2, (z 3, (z 4, (z 5, (n, (s, (a, (d, (f, (w, (r, (c, (e, tt))))))))))))))) z (kindAt t i)
+
 -- children lie below their parent
 last-below : (i : ℕ) → last (suc i) ≤ i
 unfolding last
@@ -41,14 +56,11 @@ prior-le t c = sub-le c (sizeAt t c)
 -- the tree of one level depends on the trees of the nodes below it alone
 grow-same : (t : List ℕ) (i : ℕ) (f g : ℕ → Statement) → ((j : ℕ) → j ≤ i → f j ≡ g j)
     → grow (readsOf t) f (shapeAt t (suc i)) ≡ grow (readsOf t) g (shapeAt t (suc i))
-unfolding shapeAt shapes grow
+unfolding grow
 grow-same t i f g h =
     let l : f (last (suc i)) ≡ g (last (suc i)) = h (last (suc i)) (last-below i) in
     let p : f (prior t (last (suc i))) ≡ g (prior t (last (suc i))) = h (prior t (last (suc i))) (le-trans (prior-le t (last (suc i))) (last-below i)) in
-    each-at (λ k s. grow (readsOf t) f s ≡ grow (readsOf t) g s) (shapes t (suc i))
-    (refl, (refl, (refl, (refl, (refl, (refl, (refl, ((cc), (refl, ((cc), ((cc), ((cc), (refl, (refl, (refl, tt)))))))))))))))
-    (λ k. refl)
-    (kindAt t (suc i))
+    by-shape t (suc i) (λ k s. grow (readsOf t) f s ≡ grow (readsOf t) g s) (λ k. refl) refl (cc) refl (cc) (cc) (cc) refl refl refl
 
 -- more levels than a node has below it change nothing
 levels : (t : List ℕ) (f g i : ℕ) → i ≤ f → i ≤ g → statementIn t f i ≡ statementIn t g i
@@ -87,13 +99,16 @@ one-of-three k l u = go (k - 12) refl
 
 -- a node of a known kind
 module _ (t : List ℕ) (i : ℕ) where
+  pub statement-of : 0 < i → statementAt t i ≡ grow (readsOf t) (statementAt t) (shapeAt t i)
+  statement-of p = go i p
+    where
+      go : (i : ℕ) → 0 < i → statementAt t i ≡ grow (readsOf t) (statementAt t) (shapeAt t i)
+      go zero p = absurd (not-suc-le-zero p)
+      go (suc i) p = statement-law t i
+
   statement-kind : (kind : ℕ) → kindAt t i ≡ kind → 0 < i → statementAt t i ≡ grow (readsOf t) (statementAt t) (getD (shapes t i) kind stray)
   unfolding shapeAt
-  statement-kind kind e p = go i e p
-    where
-      go : (i : ℕ) → kindAt t i ≡ kind → 0 < i → statementAt t i ≡ grow (readsOf t) (statementAt t) (getD (shapes t i) kind stray)
-      go zero e p = absurd (not-suc-le-zero p)
-      go (suc i) e p = rw (← e) (statement-law t i)
+  statement-kind kind e p = rw (← e) (statement-of p)
 
   pub statement-seq : kindAt t i ≡ 7 → 0 < i → statementAt t i ≡ Seq (statementAt t (prior t (last i))) (statementAt t (last i))
   unfolding shapes grow
@@ -139,9 +154,9 @@ module _ (t : List ℕ) (i : ℕ) where
       → P 13 (Assert (readsOf t (last i)))
       → P 14 (Expr (readsOf t (last i)))
       → P (kindAt t i) (statementAt t i)
-  unfolding shapes grow
-  by-kind P z s a d f w r c e = at-zero i (λ p. rw (statement-kind (kindAt t i) refl p) (each-at (λ k x. P k (grow (readsOf t) (statementAt t) x)) (shapes t i)
-      (z 0, (z 1, (z 2, (z 3, (z 4, (z 5, (z 6, (s, (a, (d, (f, (w, (r, (c, (e, tt))))))))))))))) z (kindAt t i)))
+  unfolding grow
+  by-kind P z s a d f w r c e =
+      at-zero i (λ p. rw (statement-of p) (by-shape t i (λ k x. P k (grow (readsOf t) (statementAt t) x)) z (z 6) s a d f w r c e))
     where
       zero-at : statementAt t 0 ≡ Nop
       zero-at = unfold statementAt statementIn in refl
@@ -155,6 +170,9 @@ module _ (t : List ℕ) (i : ℕ) where
   statement-rest =
       by-kind (λ k s. (k < 7) ⊎ (15 ≤ k) → s ≡ Nop) (λ k h. refl)
       (not-both 7 tt) (not-both 8 tt) (not-both 9 tt) (not-both 10 tt) (not-both 11 tt) (not-both 12 tt) (not-both 13 tt) (not-both 14 tt)
+
+  pub statement-nop : kindAt t i ≡ 6 → statementAt t i ≡ Nop
+  statement-nop e = statement-rest (inl (omega arith))
 
 -- a search finds nothing past node i, and names no item
 abbrev Low : ℕ → Found → Type 0
@@ -194,7 +212,7 @@ module _ (t : List ℕ) (n : ℕ) (h : Known t n) where
   -- one level, where the trees below it find nothing past node i
   low-grow : (g : ℕ → Statement) (i : ℕ) → suc i < n → ((j : ℕ) → j ≤ i → (d : Set) → Low (suc i) (lacks (g j) d))
       → (d : Set) → Low (suc i) (lacks (grow (readsOf t) g (shapeAt t (suc i))) d)
-  unfolding shapeAt shapes grow lacks
+  unfolding grow lacks
   low-grow g i p r d =
       let b : ℕ = last (suc i) in
       let a : ℕ = prior t b in
@@ -206,45 +224,15 @@ module _ (t : List ℕ) (n : ℕ) (h : Known t n) where
       let ra : Low (suc i) (missing (readsOf t a) d) = low-reads (suc i) a d (omega arith) p in
       let re : Low (suc i) (missing (readsOf t e) d) = low-reads (suc i) e d (omega arith) p in
       let two : Low (suc i) (orElse (lacks (g a) d) (lacks (g b) d)) = low-or (suc i) (lacks (g a) d) (lacks (g b) d) (r a la d) (r b lb d) in
-      each-at (λ k s. Low (suc i) (lacks (grow (readsOf t) g s) d)) (shapes t (suc i)) (
-        tt,
-        (
-          tt,
-          (
-            tt,
-            (
-              tt,
-              (
-                tt,
-                (
-                  tt,
-                  (
-                    tt,
-                    (
-                      low-or (suc i) (lacks (g a) d) (lacks (g b) (leaves (g a) d)) (r a la d) (r b lb (leaves (g a) d)),
-                      (
-                        rb,
-                        (
-                          r b lb (without d (bAt t (suc i))),
-                          (
-                            low-or (suc i) (missing (readsOf t e) d) (orElse (lacks (g a) d) (lacks (g b) d)) re two,
-                            (
-                              low-or (suc i) (missing (readsOf t a) d) (lacks (g b) d) ra (r b lb d),
-                              (rb, (rb, (rb, tt))),
-                            ),
-                          ),
-                        ),
-                      ),
-                    ),
-                  ),
-                ),
-              ),
-            ),
-          ),
-        ),
-      )
-      (λ k. tt)
-      (kindAt t (suc i))
+      by-shape t (suc i) (λ k s. Low (suc i) (lacks (grow (readsOf t) g s) d)) (λ k. tt) tt
+      (low-or (suc i) (lacks (g a) d) (lacks (g b) (leaves (g a) d)) (r a la d) (r b lb (leaves (g a) d)))
+      rb
+      (r b lb (without d (bAt t (suc i))))
+      (low-or (suc i) (missing (readsOf t e) d) (orElse (lacks (g a) d) (lacks (g b) d)) re two)
+      (low-or (suc i) (missing (readsOf t a) d) (lacks (g b) d) ra (r b lb d))
+      rb
+      rb
+      rb
 
   low-in : (f i : ℕ) (d : Set) → i < n → Low i (lacks (statementIn t f i) d)
   unfolding statementIn lacks

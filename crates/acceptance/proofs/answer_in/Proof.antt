@@ -1,83 +1,70 @@
+use Rattle.acceptance.proofs.Places.{placed-lacks}
+use Rattle.shape.specs.Failing.{fails}
+use Rattle.language.specs.Nodes.{answers}
+use native.Mathlib.Omega.{arith}
+use Rattle.acceptance.proofs.Places.{head-inside, placed-first, placed-undeclared, placed-unless, placed-none, past-fourteen}
 use borrow.Author.Needs.{needs}
 use Rattle.acceptance.proofs.answer_in.Statement.{statement}
 use Rattle.acceptance.proofs.answer_in.Tie as tie
-use Rattle.acceptance.proofs.answer_in.Reads as reads
-use Rattle.acceptance.proofs.answer_in.Lts as lts
-use Rattle.flow.proofs.first_lacking.Reads as first-lacking-reads
-use Rattle.flow.proofs.not_returning.Reads as not-returning-reads
-use Rattle.scopes.proofs.first_outside.Reads as first-outside-reads
-use Rattle.scopes.proofs.first_undeclared.Reads as first-undeclared-reads
-use Rattle.shape.proofs.first_misplaced.Reads as first-misplaced-reads
-use Rattle.shape.proofs.first_node.Reads as first-node-reads
-use Rattle.typing.proofs.first_mistyped.Reads as first-mistyped-reads
 
--- src/lib.rt:39:14
 first-node-requires : tie.Need-first-node-requires
 first-node-requires c κs = search needs
 
--- src/lib.rt:40:14
 first-node-requires-2 : tie.Need-first-node-requires-2
 first-node-requires-2 c κs = search needs
 
--- src/lib.rt:41:14
 first-misplaced-requires : tie.Need-first-misplaced-requires
 first-misplaced-requires c κs = search needs
 
--- src/lib.rt:42:15
 first-undeclared-requires : tie.Need-first-undeclared-requires
-first-undeclared-requires c κs = ?
+first-undeclared-requires c κs = ((head-inside _ _ (c .before .before .before .pre .0 .0) (c .before .before .before .pre .0 .1), c .before .before .before .pre .0 .0 .vars _ (c .before .before .before .pre .0 .1), c .before .before .before .pre .0 .0 .params _ (c .before .before .before .pre .0 .1)), (search needs, c .before .before .before .pre .1 .1 (omega arith) .0))
 
--- src/lib.rt:43:15
 first-outside-requires : tie.Need-first-outside-requires
-first-outside-requires c κs = ?
+first-outside-requires c κs = (head-inside _ _ (c .before .before .before .pre .0 .0) (c .before .before .before .pre .0 .1), (search needs, c .before .before .before .pre .1 .1 (omega arith) .0))
 
--- src/lib.rt:44:15
 first-mistyped-requires : tie.Need-first-mistyped-requires
-first-mistyped-requires c κs = ?
+first-mistyped-requires c κs = (search needs, (search needs, c .before .before .before .pre .1 .1 (omega arith)))
 
--- src/lib.rt:45:15
 first-lacking-requires : tie.Need-first-lacking-requires
-first-lacking-requires c κs = ?
+first-lacking-requires c κs = ((head-inside _ _ (c .before .before .before .pre .0 .0) (c .before .before .before .pre .0 .1), c .before .before .before .pre .0 .0 .params _ (c .before .before .before .pre .0 .1)), (search needs, c .before .before .before .pre .1 .1 (omega arith) .0))
 
--- src/lib.rt:46:15
 not-returning-requires : tie.Need-not-returning-requires
-not-returning-requires c κs = ?
+not-returning-requires c κs = (search needs, c .before .before .before .pre .1 .1 (omega arith) .0)
 
--- src/lib.rt:31:1
 returns : tie.Need-returns
-returns c = ?
+unfolding answers fails
+returns c = (rw (c .before .match .keys1) (c .first-node .ensures), placed-first _ _ _ (c .first-node .ensures))
 
--- src/lib.rt:31:1
 returns-2 : tie.Need-returns-2
-returns-2 c = ?
+unfolding answers fails
+returns-2 c = (rw (c .before .match .keys2) (c .first-node2 .ensures), placed-first _ _ _ (c .first-node2 .ensures))
 
--- src/lib.rt:31:1
 returns-3 : tie.Need-returns-3
-returns-3 c = ?
+unfolding answers fails
+returns-3 c = (rw (c .before .match .keys3) (c .first-misplaced .ensures), placed-first _ _ _ (c .first-misplaced .ensures))
 
--- src/lib.rt:31:1
 returns-4 : tie.Need-returns-4
-returns-4 c = ?
+unfolding answers fails
+returns-4 c = (rw (c .before .match .keys4) (c .first-undeclared .ensures), placed-undeclared _ _ _ _ (c .first-undeclared .ensures) (c .before .before .before .before .pre .0 .0 .vars _ (c .before .before .before .before .pre .0 .1)) (search needs))
 
--- src/lib.rt:31:1
 returns-5 : tie.Need-returns-5
-returns-5 c = ?
+unfolding answers fails
+returns-5 c = (rw (c .before .match .keys5) (c .first-outside .ensures), placed-first _ _ _ (c .first-outside .ensures))
 
--- src/lib.rt:31:1
 returns-6 : tie.Need-returns-6
-returns-6 c = ?
+unfolding answers fails
+returns-6 c = (rw (c .before .match .keys6) (c .first-mistyped .ensures), placed-first _ _ _ (c .first-mistyped .ensures))
 
--- src/lib.rt:31:1
 returns-7 : tie.Need-returns-7
-returns-7 c = ?
+unfolding answers fails
+returns-7 c = (rw (c .before .match .keys7) (c .first-lacking .ensures .0), placed-lacks _ _ (c .before .before .before .before .pre .1 .1 (omega arith) .0) _ _ (c .first-lacking .ensures .0) (search needs))
 
--- src/lib.rt:31:1
 returns-8 : tie.Need-returns-8
-returns-8 c = ?
+unfolding answers fails
+returns-8 c = (rw (c .before .match .keys8) (c .not-returning .ensures), placed-unless _ _ _ (c .not-returning .ensures) (search needs))
 
--- src/lib.rt:31:1
 returns-9 : tie.Need-returns-9
-returns-9 c = ?
+returns-9 c = (past-fourteen _ _ _ _ _ (search needs) (c .match .rest .0 .0 .0 .0 .0 .0 .0 .1) (c .match .rest .0 .0 .0 .0 .0 .0 .1) (c .match .rest .0 .0 .0 .0 .0 .1) (c .match .rest .0 .0 .0 .0 .1) (c .match .rest .0 .0 .0 .1) (c .match .rest .0 .0 .1) (c .match .rest .0 .1) (c .match .rest .1), placed-none _)
 
 pub answer-in-spec : {M : Type 1} → statement M
 answer-in-spec =

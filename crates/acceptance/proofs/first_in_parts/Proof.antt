@@ -1,101 +1,85 @@
+use Prim.Native.Nat.{ℕ}
+use Rattle.acceptance.proofs.Walk.{fits, asks, found, placed, shift-placed}
+use Rattle.records.proofs.Parts.{start-first, start-next, scan-found, scan-on, scan-end}
+use Rattle.language.specs.Check.{inPart}
+use Rattle.records.specs.Search.{firstIn}
+use Rattle.records.specs.Parts.{startOf}
+use borrow.Author.Needs.{needs}
+use native.Mathlib.Nat.{sub-zero}
+use native.Mathlib.Omega.{arith}
+use mathlib.Core.Path.{_≡_, sym, _∙_}
+use Prim.Native.Nat.{_-_, _≤_}
 use Rattle.acceptance.proofs.first_in_parts.Statement.{statement}
 use Rattle.acceptance.proofs.first_in_parts.Tie as tie
-use Rattle.acceptance.proofs.first_in_parts.Reads as reads
-use Rattle.acceptance.proofs.first_in_parts.Lts as lts
-use Rattle.acceptance.proofs.answer_in.Reads as answer-in-reads
-use Rattle.acceptance.proofs.origin.Reads as origin-reads
-use Rattle.records.proofs.count_of.Reads as count-of-reads
-use Rattle.records.proofs.function_count.Reads as function-count-reads
-use Rattle.records.proofs.shift_by.Reads as shift-by-reads
 
 abbrev Inv-loop : tie.InvT-loop
-Inv-loop file q functions f₀ start₀ f start = ?
+Inv-loop file q F f₀ start₀ f start = (f ≤ F) × (start ≡ startOf file f) × (firstIn (inPart q file) F 0 ≡ firstIn (inPart q file) (F - f) f)
 
 abbrev μ-loop : tie.MeasureT-loop
-μ-loop file q functions f₀ start₀ f start = ?
+μ-loop file q F f₀ start₀ f start = F - f
 
--- src/lib.rt:70:9
 function-count-requires : tie.Need-function-count-requires Inv-loop μ-loop
-function-count-requires c κs = ?
+function-count-requires c κs = omega (arith, c .before .pre .0 .0 .heads)
 
--- src/lib.rt:72:21
 add-start : tie.Need-add-start Inv-loop μ-loop
-add-start c = ?
+add-start c = search needs
 
--- src/lib.rt:73:5
 loop-holds : tie.Need-loop-holds Inv-loop μ-loop
-loop-holds c = ?
+loop-holds c = (search needs, rw (start-first, c .function-count .ensures .0), rw sub-zero)
 
--- src/lib.rt:74:13
 count-of-requires : tie.Need-count-of-requires Inv-loop μ-loop
-count-of-requires c κs = ?
+count-of-requires c κs = omega (arith, (c .before .before .before .before .pre .0 .0 .heads), (c .before .before .function-count .ensures .0))
 
--- src/lib.rt:75:17
 mul-a : tie.Need-mul-a Inv-loop μ-loop
-mul-a c = ?
+mul-a c = omega (arith, fits (c .before .before .before .before .before .args .file .now) (c .before .before .before .before .before .args .q) (c .before .before .before .before .before .pre .0 .0) (c .before .before .before .function-count .ensures .0) (c .before .loop-test .taken) (c .before .before .loop .inv .1) (c .count-of .ensures .0))
 
--- src/lib.rt:76:23
 add-e : tie.Need-add-e Inv-loop μ-loop
-add-e c = ?
+add-e c = omega (arith, fits (c .before .before .before .before .before .args .file .now) (c .before .before .before .before .before .args .q) (c .before .before .before .before .before .pre .0 .0) (c .before .before .before .function-count .ensures .0) (c .before .loop-test .taken) (c .before .before .loop .inv .1) (c .count-of .ensures .0))
 
--- src/lib.rt:76:17
 mul-e : tie.Need-mul-e Inv-loop μ-loop
-mul-e c = ?
+mul-e c = omega (arith, fits (c .before .before .before .before .before .args .file .now) (c .before .before .before .before .before .args .q) (c .before .before .before .before .before .pre .0 .0) (c .before .before .before .function-count .ensures .0) (c .before .loop-test .taken) (c .before .before .loop .inv .1) (c .count-of .ensures .0))
 
--- src/lib.rt:77:72
 sub-answer-in : tie.Need-sub-answer-in Inv-loop μ-loop
-sub-answer-in c = ?
+sub-answer-in c = search needs
 
--- src/lib.rt:77:72
 part-answer-in-start : tie.Need-part-answer-in-start Inv-loop μ-loop
-part-answer-in-start c = ?
+part-answer-in-start c = search needs
 
--- src/lib.rt:77:72
 part-answer-in-end : tie.Need-part-answer-in-end Inv-loop μ-loop
-part-answer-in-end c = ?
+part-answer-in-end c = fits (c .before .before .before .before .before .args .file .now) (c .before .before .before .before .before .args .q) (c .before .before .before .before .before .pre .0 .0) (c .before .before .before .function-count .ensures .0) (c .before .loop-test .taken) (c .before .before .loop .inv .1) (c .count-of .ensures .0)
 
--- src/lib.rt:77:50
 answer-in-requires : tie.Need-answer-in-requires Inv-loop μ-loop
-answer-in-requires c κs = ?
+answer-in-requires c κs = asks (c .before .before .before .before .before .before .args .file .now) (c .before .before .before .before .before .before .args .q) (c .before .before .before .before .before .before .pre .0 .0) (c .before .before .before .before .function-count .ensures .0) (c .before .before .loop-test .taken) (c .before .before .before .loop .inv .1) (c .before .count-of .ensures .0) (c .before .before .before .before .before .before .pre .0 .2) (c .before .before .before .before .before .before .pre .1)
 
--- src/lib.rt:77:89
 origin-requires : tie.Need-origin-requires Inv-loop μ-loop
-origin-requires c κs = ?
+origin-requires c κs = omega (arith, (c .before .before .before .before .before .before .before .pre .0 .0 .few), (c .before .before .before .before .before .function-count .ensures .0))
 
--- src/lib.rt:77:41
 shift-by-requires : tie.Need-shift-by-requires Inv-loop μ-loop
-shift-by-requires c κs = ?
+shift-by-requires c κs = λ i x e. omega (arith, placed (c .before .before .before .before .before .before .before .before .args .file .now) (c .before .before .before .before .before .before .before .before .args .q) (c .before .before .before .before .before .before .before .before .pre .0 .0) (c .before .before .before .before .before .before .function-count .ensures .0) (c .before .before .before .before .loop-test .taken) (c .before .before .before .before .before .loop .inv .1) (c .before .before .before .count-of .ensures .0) _ _ (c .before .before .before .before .before .before .before .before .pre .0 .1) (c .before .answer-in .ensures .1) (c .origin .ensures) i x e .0)
 
--- src/lib.rt:77:26
 enum-known-place : tie.Need-enum-known-place Inv-loop μ-loop
-enum-known-place c = ?
+enum-known-place c = search needs
 
--- src/lib.rt:78:13
 returns : tie.Need-returns Inv-loop μ-loop
-returns c = ?
+returns c = (sym ((c .before .before .before .before .before .before .before .before .before .loop .inv .2) ∙ scan-found _ _ _ _ _ (c .before .before .before .before .before .before .before .before .loop-test .taken) (found (c .before .before .before .before .before .before .before .before .before .before .before .before .args .file .now) (c .before .before .before .before .before .before .before .before .before .before .before .before .args .q) (c .before .before .before .before .before .before .before .before .before .before .before .before .pre .0 .0) (c .before .before .before .before .before .before .before .before .before .before .function-count .ensures .0) (c .before .before .before .before .before .before .before .before .loop-test .taken) (c .before .before .before .before .before .before .before .before .before .loop .inv .1) (c .before .before .before .before .before .before .before .count-of .ensures .0) _ _ (c .before .before .before .before .before .answer-in .ensures .0) (c .before .before .before .before .origin .ensures) ∙ sym (c .before .before .before .shift-by .ensures) ∙ (c .before .place .given .1))) ∙ rw (c .before .before .before .before .before .before .before .before .before .before .function-count .ensures .0), λ i x e. shift-placed _ i x _ (placed (c .before .before .before .before .before .before .before .before .before .before .before .before .args .file .now) (c .before .before .before .before .before .before .before .before .before .before .before .before .args .q) (c .before .before .before .before .before .before .before .before .before .before .before .before .pre .0 .0) (c .before .before .before .before .before .before .before .before .before .before .function-count .ensures .0) (c .before .before .before .before .before .before .before .before .loop-test .taken) (c .before .before .before .before .before .before .before .before .before .loop .inv .1) (c .before .before .before .before .before .before .before .count-of .ensures .0) _ _ (c .before .before .before .before .before .before .before .before .before .before .before .before .pre .0 .1) (c .before .before .before .before .before .answer-in .ensures .1) (c .before .before .before .before .origin .ensures)) (sym (c .before .before .before .shift-by .ensures) ∙ (c .before .place .given .1) ∙ e))
 
 enum-told : tie.Need-enum-told Inv-loop μ-loop
-enum-told c = ?
+enum-told c = search needs
 
--- src/lib.rt:80:9
 add-start-2 : tie.Need-add-start-2 Inv-loop μ-loop
-add-start-2 c = ?
+add-start-2 c = omega (arith, fits (c .before .before .before .before .before .before .before .before .before .before .before .args .file .now) (c .before .before .before .before .before .before .before .before .before .before .before .args .q) (c .before .before .before .before .before .before .before .before .before .before .before .pre .0 .0) (c .before .before .before .before .before .before .before .before .before .function-count .ensures .0) (c .before .before .before .before .before .before .before .loop-test .taken) (c .before .before .before .before .before .before .before .before .loop .inv .1) (c .before .before .before .before .before .before .count-of .ensures .0))
 
--- src/lib.rt:81:9
 add-f : tie.Need-add-f Inv-loop μ-loop
-add-f c = ?
+add-f c = search needs
 
--- src/lib.rt:73:5
 loop-less : tie.Need-loop-less Inv-loop μ-loop
-loop-less c = ?
+loop-less c = search needs
 
--- src/lib.rt:73:5
 loop-again : tie.Need-loop-again Inv-loop μ-loop
-loop-again c = ?
+loop-again c = (search needs, start-next (c .before .before .before .before .before .before .before .before .before .before .before .args .file .now) (c .before .before .before .before .before .before .before .before .loop .f) (c .before .before .before .before .before .before .before .before .loop .inv .1) (c .before .before .before .before .before .before .count-of .ensures .0), (c .before .before .before .before .before .before .before .before .loop .inv .2) ∙ scan-on _ _ _ (c .before .before .before .before .before .before .before .loop-test .taken) (found (c .before .before .before .before .before .before .before .before .before .before .before .args .file .now) (c .before .before .before .before .before .before .before .before .before .before .before .args .q) (c .before .before .before .before .before .before .before .before .before .before .before .pre .0 .0) (c .before .before .before .before .before .before .before .before .before .function-count .ensures .0) (c .before .before .before .before .before .before .before .loop-test .taken) (c .before .before .before .before .before .before .before .before .loop .inv .1) (c .before .before .before .before .before .before .count-of .ensures .0) _ _ (c .before .before .before .before .answer-in .ensures .0) (c .before .before .before .origin .ensures) ∙ sym (c .before .before .shift-by .ensures) ∙ c .enum-told .given .1))
 
--- src/lib.rt:64:1
 returns-2 : tie.Need-returns-2 Inv-loop μ-loop
-returns-2 c = ?
+returns-2 c = (sym ((c .before .loop .inv .2) ∙ scan-end _ _ _ (omega arith)) ∙ rw (c .before .before .function-count .ensures .0), λ i x e. let z : _≡_ {A = ℕ} 0 1 = cc in absurd (omega arith))
 
 pub first-in-parts-spec : {M : Type 1} → statement M
 first-in-parts-spec =

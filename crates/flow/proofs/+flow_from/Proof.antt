@@ -76,15 +76,15 @@ flow-from-plain-requires t c κs = search needs
 flow-from-b-at-requires-2 : (t : ℕ) → flow-from-lts.Need-b-at-requires-2 (claims t) (flow-from-at t) flow-from.Post
 flow-from-b-at-requires-2 t c κs = search needs
 
-flow-from-sub-flow-from : (t : ℕ) → flow-from-lts.Need-sub-flow-from (claims t) (flow-from-at t) flow-from.Post
-flow-from-sub-flow-from t c = inner 9 (c .before .before .before .before .pre .1 .1) (search needs) (sym (c .before .before .kind-at .ensures) ∙ c .before .match .keys3) (lit≤ tt) (lit< tt)
-
 flow-from-remove-requires : (t : ℕ) → flow-from-lts.Need-remove-requires (claims t) (flow-from-at t) flow-from.Post
 unfolding namesVariable usesVariable
 flow-from-remove-requires t c κs = rw (c .b-at2 .ensures) (named 9 (c .before .before .before .before .pre .1 .1) (search needs) (sym (c .before .before .kind-at .ensures) ∙ c .before .match .keys3) refl)
 
+flow-from-sub-flow-from : (t : ℕ) → flow-from-lts.Need-sub-flow-from (claims t) (flow-from-at t) flow-from.Post
+flow-from-sub-flow-from t c = inner 9 (c .before .before .before .before .before .pre .1 .1) (search needs) (sym (c .before .before .before .kind-at .ensures) ∙ c .before .before .match .keys3) (lit≤ tt) (lit< tt)
+
 flow-from-flow-from-requires-3 : (t : ℕ) → flow-from-lts.Need-flow-from-requires-3 (claims t) (flow-from-at t) flow-from.Post
-flow-from-flow-from-requires-3 t c κs = descend (c .before .before .before .before .before .pre) (omega (arith, flow-from-sub-flow-from t (c .before)))
+flow-from-flow-from-requires-3 t c κs = descend (c .before .before .before .before .before .pre) (omega (arith, flow-from-sub-flow-from t c))
 
 flow-from-in-scope-requires : (t : ℕ) → flow-from-lts.Need-in-scope-requires (claims t) (flow-from-at t) flow-from.Post
 unfolding namesVariable usesVariable
@@ -145,7 +145,7 @@ flow-from-returns-2 : (t : ℕ) → flow-from-lts.Need-returns-2 (claims t) (flo
 flow-from-returns-2 t c = follows-assign (c .before .before .before .before .before .before .before .args .part .now) (c .before .before .before .before .before .before .before .args .i) (sym (c .before .before .before .before .before .kind-at .ensures) ∙ c .before .before .before .before .match .keys2) (flow-from-sub-first-missing t (c .before .before)) (c .before .before .before .b-at .ensures) (c .plain .ensures) (c .before .before .insert .ensures) (c .before .first-missing .ensures)
 
 flow-from-returns-3 : (t : ℕ) → flow-from-lts.Need-returns-3 (claims t) (flow-from-at t) flow-from.Post
-flow-from-returns-3 t c = follows-decl (c .before .before .before .before .before .before .before .args .part .now) (c .before .before .before .before .before .before .before .args .i) (sym (c .before .before .before .before .before .kind-at .ensures) ∙ c .before .before .before .before .match .keys3) (flow-from-sub-flow-from t (c .before .before .before)) (c .before .before .before .b-at2 .ensures) (c .in-scope .ensures) (rw (c .before .before .remove .ensures) at (c .before .flow-from3 .ensures))
+flow-from-returns-3 t c = follows-decl (c .before .before .before .before .before .before .before .args .part .now) (c .before .before .before .before .before .before .before .args .i) (sym (c .before .before .before .before .before .kind-at .ensures) ∙ c .before .before .before .before .match .keys3) (flow-from-sub-flow-from t (c .before .before)) (c .before .before .before .b-at2 .ensures) (c .in-scope .ensures) (rw (c .before .before .remove .ensures) at (c .before .flow-from3 .ensures))
 
 flow-from-returns-4 : (t : ℕ) → flow-from-lts.Need-returns-4 (claims t) (flow-from-at t) flow-from.Post
 flow-from-returns-4 t c = follows-if (c .before .before .before .before .before .before .before .before .before .args .part .now) (c .before .before .before .before .before .before .before .before .before .args .i) (sym (c .before .before .before .before .before .before .before .kind-at .ensures) ∙ c .before .before .before .before .before .before .match .keys4) (flow-from-sub-b-2 t (c .before .before .before .before .before .before)) (c .before .before .before .before .before .prior2 .ensures) (c .before .before .before .before .prior3 .ensures) (c .in-branches .ensures) (c .before .before .before .first-missing2 .ensures) (c .before .before .flow-from4 .ensures) (c .before .flow-from5 .ensures)
@@ -175,8 +175,8 @@ pub +flow-from-spec : {M : Type 1} → statement M
     (flow-from-first-missing-requires t)
     (flow-from-plain-requires t)
     (flow-from-b-at-requires-2 t)
-    (flow-from-sub-flow-from t)
     (flow-from-remove-requires t)
+    (flow-from-sub-flow-from t)
     (flow-from-flow-from-requires-3 t)
     (flow-from-in-scope-requires t)
     (flow-from-sub-b-2 t)

@@ -1,0 +1,4 @@
+pub mod Places
+pub mod Walk
+pub mod Rounds
+pub mod Stages
