@@ -9,7 +9,7 @@ use Rattle.records.specs.Fields.{markAt, functions, nodes, resultOf, paramsOf, 
 use Rattle.records.specs.Parts.{sumOf, startOf, partOf}
 use Rattle.records.specs.Search.{firstOf, shift, orElse, firstIn, unless}
 use Rattle.records.specs.Children.{arities, arityOf, arityAt, walk, children}
-use Rattle.language.specs.Sorts.{differ, isExpression, holdsStatements, hasCondition, wantsExpression, wrongSort}
+use Rattle.language.specs.Sorts.{differ, isExpression, wantsExpression, wrongSort}
 use Rattle.language.specs.Statements.{prior, last, shapes, shapeAt, readsFrom, readsOf, grow, statementIn, statementAt}
 use Rattle.language.specs.Flow.{declares, leaves, missing, lacks, returns}
 use Rattle.language.specs.Scopes.{declaresAt, declCount, declOf, under, usesVariable}
@@ -161,5 +161,5 @@ rows =
 
 -- all rows
 worked : map (λ r. checkOf (fileOf r)) rows ≡ map verdictOf rows
-unfolding lowest has none with without both either less below u16At u32At markAt functions nodes resultOf paramsOf varsOf maskOf countOf kindAt aAt bAt sizeAt sumOf startOf partOf firstOf shift orElse firstIn unless arities arityOf arityAt walk children differ isExpression holdsStatements hasCondition wantsExpression wrongSort prior last shapes shapeAt readsFrom readsOf grow statementIn statementAt declares leaves missing lacks returns declaresAt declCount declOf under usesVariable paramType varType operatorType typesOf typeAt condition wantsOf wantAt suits agree within lengthOk headerOk recordsOk functionOk sumOk mainOk fields fieldsOk nodeOk total sizeOk wrongChild some misplaced undeclared firstUndeclared outside mistyped answers originOf inPart partQuestions questions refuse put checkOf
+unfolding lowest has none with without both either less below u16At u32At markAt functions nodes resultOf paramsOf varsOf maskOf countOf kindAt aAt bAt sizeAt sumOf startOf partOf firstOf shift orElse firstIn unless arities arityOf arityAt walk children differ isExpression wantsExpression wrongSort prior last shapes shapeAt readsFrom readsOf grow statementIn statementAt declares leaves missing lacks returns declaresAt declCount declOf under usesVariable paramType varType operatorType typesOf typeAt condition wantsOf wantAt suits agree within lengthOk headerOk recordsOk functionOk sumOk mainOk fields fieldsOk nodeOk total sizeOk wrongChild some misplaced undeclared firstUndeclared outside mistyped answers originOf inPart partQuestions questions refuse put checkOf
 worked = refl

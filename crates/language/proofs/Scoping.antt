@@ -14,7 +14,7 @@ use Rattle.records.specs.Fields.{functions, paramsOf, varsOf, countOf, kindAt, 
 use Rattle.records.specs.Parts.{partOf}
 use Rattle.records.specs.Children.{arities, arityOf}
 use Rattle.records.proofs.Bools.{and-left, and-right, or-more, or-cases, by, clash}
-use Rattle.language.specs.Sorts.{isExpression, holdsStatements, hasCondition, wantsExpression}
+use Rattle.language.specs.Sorts.{isExpression, wantsExpression}
 use Rattle.language.specs.Statements.{prior, last, readsOf, statementAt}
 use Rattle.language.specs.Flow.{declares}
 use Rattle.language.specs.Scopes.{declaresAt, declOf, under, usesVariable}
@@ -220,7 +220,7 @@ module _ (s : List ℕ) (h : Accepted s) (f : ℕ) (l : f < functions s) where
               clash (isExpression (kindAt t d)) (expression-tree s h f l e d p q (omega arith) (omega arith)) (rw k)
 
   scoped-step : (i : ℕ) → i < n → ((c : ℕ) → c < i → c < n → Scope (scopeAt s f c) (statementAt t c)) → Scope (scopeAt s f i) (statementAt t i)
-  unfolding arityOf arities wantsExpression holdsStatements hasCondition usesVariable
+  unfolding arityOf arities wantsExpression usesVariable
   scoped-step i p r =
       by-kind t i (λ k st. kindAt t i ≡ k → Scope (scopeAt s f i) st) (λ k e. tt)
       (λ e. (stmt (λ q. omega arith) (child 7 1 0 e refl), stmt (λ q. omega arith) (child 7 0 1 e refl)))

@@ -15,7 +15,7 @@ use Rattle.records.specs.Fields.{functions, countOf, kindAt, aAt, bAt, sizeAt}
 use Rattle.records.specs.Parts.{partOf}
 use Rattle.records.specs.Children.{arities, arityOf, arityAt, walk, children}
 use Rattle.records.proofs.Bools.{or-cases}
-use Rattle.language.specs.Sorts.{isExpression, holdsStatements, hasCondition, wantsExpression}
+use Rattle.language.specs.Sorts.{isExpression, wantsExpression}
 use Rattle.language.specs.Statements.{prior, last, read, readsFrom, readsOf}
 use Rattle.language.specs.Nodes.{total}
 use Rattle.language.proofs.Accept.{Accepted}
@@ -200,7 +200,7 @@ module _ (t : List ℕ) (n : ℕ) (ok : Sizes t n) where
 -- ---- the sort of an expression's subtree
 
 expression-wants : (kind k : ℕ) → isExpression kind ≡ true → wantsExpression kind k ≡ true
-unfolding isExpression wantsExpression holdsStatements hasCondition
+unfolding isExpression wantsExpression
 expression-wants kind k e =
     let l : (kind < 6) ⊎ (kind ≡ 15) = or-cases (ltb kind 6) (eqb kind 15) e (λ q. inl (ltb-true kind 6 q)) (λ q. inr (eqb-true kind 15 q)) in
     rw (no 7 l (omega arith) (omega arith), no 9 l (omega arith) (omega arith), no 10 l (omega arith) (omega arith), no 11 l (omega arith) (omega arith))

@@ -20,23 +20,11 @@ use Rattle.language.specs.Types.{typeAt, wantAt, agree}
 -- the fields a and b of kinds 0 to 15; v, p and F are the function's and the file's, and a call's a is its callee's p
 unfoldable pub fields : List ℕ → ℕ → ℕ → ℕ → List Bool
 fields s f a b =
-    eqb a 0
-    ∷ (eqb a 0 && ltb b 2)
-    ∷ (eqb a 0 && ltb b (varsOf s f))
-    ∷ (ltb a 16 && eqb b 0)
-    ∷ (eqb a 0 && eqb b 0)
-    ∷ (ltb b (functions s) && eqb a (paramsOf s b))
-    ∷ (eqb a 0 && eqb b 0)
-    ∷ (eqb a 0 && eqb b 0)
-    ∷ (eqb a 0 && ltb b (varsOf s f))
-    ∷ ((eqb a 1 || eqb a 2) && (leb (paramsOf s f) b && ltb b (varsOf s f)))
-    ∷ (eqb a 0 && eqb b 0)
-    ∷ (eqb a 0 && eqb b 0)
-    ∷ (eqb a 0 && eqb b 0)
-    ∷ (eqb a 0 && eqb b 0)
-    ∷ (eqb a 0 && eqb b 0)
-    ∷ (eqb a 0 && eqb b 0)
-    ∷ []
+    let none = eqb a 0 && eqb b 0 in
+    let variable = eqb a 0 && ltb b (varsOf s f) in
+    eqb a 0 ∷ (eqb a 0 && ltb b 2) ∷ variable ∷ (ltb a 16 && eqb b 0) ∷ none ∷ (ltb b (functions s) && eqb a (paramsOf s b))
+    ∷ none ∷ none ∷ variable ∷ ((eqb a 1 || eqb a 2) && (leb (paramsOf s f) b && ltb b (varsOf s f)))
+    ∷ none ∷ none ∷ none ∷ none ∷ none ∷ none ∷ []
 
 unfoldable pub fieldsOk : List ℕ → ℕ → ℕ → ℕ → ℕ → Bool
 fieldsOk s f kind a b = getD (fields s f a b) kind false
@@ -53,9 +41,8 @@ total size (c ∷ cs) = size c + total size cs
 -- 8: is the size 1 plus the children's sizes, are the children among the i nodes before it in the part, and is the last size n?
 unfoldable pub sizeOk : List ℕ → ℕ → ℕ → Bool
 sizeOk t n i =
-    eqb (sizeAt t i) (1 + total (sizeAt t) (children t i))
-    && (leb (total (sizeAt t) (children t i)) i
-    && (not (eqb (1 + i) n) || eqb (sizeAt t i) n))
+    let below = total (sizeAt t) (children t i) in
+    eqb (sizeAt t i) (1 + below) && (leb below i && (not (eqb (1 + i) n) || eqb (sizeAt t i) n))
 
 -- node i is one of these children, the last first, of a node of that kind, and of the other sort than its place wants
 unfoldable pub wrongChild : List ℕ → ℕ → List ℕ → ℕ → Bool

@@ -27,13 +27,8 @@ recordsOk s = eqb (length s) (12 * (1 + functions s + nodes s))
 -- 4: "FN", result 0 to 2, p 0 to 8, v from p to 64, no mask bit from p on, two zero bytes, a count of 1 or more
 unfoldable pub functionOk : List ℕ → ℕ → Bool
 functionOk s f =
-    eqb (markAt s (1 + f)) 20038
-    && (leb (resultOf s f) 2
-    && (leb (paramsOf s f) 8
-    && (within (paramsOf s f) 64 (varsOf s f)
-    && (ltb (maskOf s f) (2 ^ paramsOf s f)
-    && (eqb (u16At s (12 * (1 + f) + 6)) 0
-    && leb 1 (countOf s f))))))
+    eqb (markAt s (1 + f)) 20038 && (leb (resultOf s f) 2 && (leb (paramsOf s f) 8 && (within (paramsOf s f) 64 (varsOf s f)
+    && (ltb (maskOf s f) (2 ^ paramsOf s f) && (eqb (u16At s (12 * (1 + f) + 6)) 0 && leb 1 (countOf s f))))))
 
 -- 5: do the part counts sum to N?
 unfoldable pub sumOk : List ℕ → Bool

@@ -12,17 +12,9 @@ differ false b = b
 unfoldable pub isExpression : ℕ → Bool
 isExpression kind = ltb kind 6 || eqb kind 15
 
--- the children of seq and decl are statements
-unfoldable pub holdsStatements : ℕ → Bool
-holdsStatements kind = eqb kind 7 || eqb kind 9
-
--- an if and a while have a condition first, then statements
-unfoldable pub hasCondition : ℕ → Bool
-hasCondition kind = eqb kind 10 || eqb kind 11
-
--- child k, counted from the left, of a node of that kind is to be an expression
+-- child k, counted from the left, of a node of that kind is to be an expression: not under seq and decl, and under if and while only the condition
 unfoldable pub wantsExpression : ℕ → ℕ → Bool
-wantsExpression kind k = not (holdsStatements kind) && (not (hasCondition kind) || eqb k 0)
+wantsExpression kind k = not (eqb kind 7 || eqb kind 9) && (not (eqb kind 10 || eqb kind 11) || eqb k 0)
 
 -- a node of kind `child` is of the other sort than child k of a node of that kind is to be
 unfoldable pub wrongSort : ℕ → ℕ → ℕ → Bool

@@ -31,17 +31,11 @@ last i = i - 1
 -- the shapes of kinds 0 to 14 at node i
 unfoldable pub shapes : List ℕ → ℕ → List Shape
 shapes t i =
-    stray ∷ stray ∷ stray ∷ stray ∷ stray ∷ stray
-    ∷ nop
-    ∷ seq (prior t (last i)) (last i)
-    ∷ assign (bAt t i) (last i)
-    ∷ decl (bAt t i) (last i)
-    ∷ if (prior t (prior t (last i))) (prior t (last i)) (last i)
-    ∷ while (prior t (last i)) (last i)
-    ∷ return (last i)
-    ∷ assert (last i)
-    ∷ expr (last i)
-    ∷ []
+    let c = last i in
+    let b = prior t c in
+    let a = prior t b in
+    stray ∷ stray ∷ stray ∷ stray ∷ stray ∷ stray ∷ nop ∷ seq b c ∷ assign (bAt t i) c ∷ decl (bAt t i) c
+    ∷ if a b c ∷ while b c ∷ return c ∷ assert c ∷ expr c ∷ []
 
 unfoldable pub shapeAt : List ℕ → ℕ → Shape
 shapeAt t i = getD (shapes t i) (kindAt t i) stray

@@ -45,19 +45,8 @@ condition k = pick (eqb k 0) 2 any
 -- what kinds 0 to 13 want of child k
 unfoldable pub wantsOf : List ℕ → ℕ → List ℕ → ℕ → ℕ → ℕ → List ℕ
 wantsOf s f t n i k =
-    any ∷ any ∷ any
-    ∷ 1
-    ∷ 2
-    ∷ paramType s (bAt t i) k
-    ∷ any
-    ∷ any
-    ∷ varType s f t n (bAt t i)
-    ∷ any
-    ∷ condition k
-    ∷ condition k
-    ∷ resultOf s f
-    ∷ 2
-    ∷ []
+    any ∷ any ∷ any ∷ 1 ∷ 2 ∷ paramType s (bAt t i) k ∷ any ∷ any ∷ varType s f t n (bAt t i) ∷ any
+    ∷ condition k ∷ condition k ∷ resultOf s f ∷ 2 ∷ []
 
 -- the type that node i wants of child k
 unfoldable pub wantAt : List ℕ → ℕ → List ℕ → ℕ → ℕ → ℕ → ℕ

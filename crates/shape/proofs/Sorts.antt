@@ -3,7 +3,7 @@ use mathlib.Core.Path.{_≡_}
 use mathlib.Core.Bool.{true, false}
 use Prim.Native.Nat.{ℕ, _≤_, _<_}
 use borrow.Author.Tests.{lt-ltb, le-ltb, ne-eqb}
-use Rattle.language.specs.Sorts.{isExpression, holdsStatements, hasCondition, wantsExpression}
+use Rattle.language.specs.Sorts.{isExpression, wantsExpression}
 
 pub expression-low : (k : ℕ) → k < 6 → true ≡ isExpression k
 unfolding isExpression
@@ -14,5 +14,5 @@ unfolding isExpression
 expression-none k h p = rw (le-ltb k 6 h, ne-eqb k 15 p)
 
 pub wants-rest : (k j : ℕ) → (k ≡ 7 → ⊥) → (k ≡ 9 → ⊥) → (k ≡ 10 → ⊥) → (k ≡ 11 → ⊥) → true ≡ wantsExpression k j
-unfolding wantsExpression holdsStatements hasCondition
+unfolding wantsExpression
 wants-rest k j p q r s = rw (ne-eqb k 7 p, ne-eqb k 9 q, ne-eqb k 10 r, ne-eqb k 11 s)

@@ -1,22 +1,22 @@
-use Rattle.language.specs.Sorts.{holdsStatements, hasCondition, wantsExpression}
+use Rattle.language.specs.Sorts.{wantsExpression}
 use Rattle.shape.proofs.Sorts.{wants-rest}
 use Rattle.shape.proofs.wants_expression.Statement.{statement}
 use Rattle.shape.proofs.wants_expression.Tie as tie
 
 returns : tie.Need-returns
-unfolding wantsExpression holdsStatements hasCondition
+unfolding wantsExpression
 returns c = rw (c .match .keys1)
 
 returns-2 : tie.Need-returns-2
-unfolding wantsExpression holdsStatements hasCondition
+unfolding wantsExpression
 returns-2 c = rw (c .match .keys2)
 
 returns-3 : tie.Need-returns-3
-unfolding wantsExpression holdsStatements hasCondition
+unfolding wantsExpression
 returns-3 c = rw (c .match .keys3)
 
 returns-4 : tie.Need-returns-4
-unfolding wantsExpression holdsStatements hasCondition
+unfolding wantsExpression
 returns-4 c = rw (c .match .keys4)
 
 returns-5 : tie.Need-returns-5
