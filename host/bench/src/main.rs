@@ -1,0 +1,120 @@
+//! Times the proved check beside the fast plain one and prints Markdown tables.
+//!
+//! Without the feature `proved` the reference stands where the proved check would.
+
+mod timing;
+
+use files::{late, shapes};
+use tests::{sides, Side};
+use timing::medians;
+
+/// The numbers of nodes timed.
+const SIZES: [usize; 6] = [128, 256, 512, 1024, 2048, 4096];
+
+/// One file to time.
+struct Entry {
+    shape: &'static str,
+    size: usize,
+    nodes: usize,
+    /// Whether the check reads the nodes at all.
+    reads_nodes: bool,
+    file: Vec<u8>,
+}
+
+/// One row of the table.
+struct Row {
+    entry: Entry,
+    slow: f64,
+    plain: f64,
+}
+
+/// All shapes at all sizes.
+fn entries() -> Vec<Entry> {
+    let mut all = Vec::new();
+    for (shape, make) in shapes::ALL {
+        for size in SIZES {
+            let file = make(size);
+            let nodes = file.nodes.len();
+            all.push(Entry { shape, size, nodes, reads_nodes: true, file: file.bytes() });
+        }
+    }
+    for (i, (shape, make)) in late::ALL.into_iter().enumerate() {
+        for size in SIZES {
+            let reads_nodes = i >= 6;
+            all.push(Entry { shape, size, nodes: size, reads_nodes, file: make(size) });
+        }
+    }
+    all
+}
+
+/// The side to judge: the last one, which is the proved check where it is linked.
+fn judged(sides: &[Side]) -> Side {
+    if sides.len() > 2 {
+        sides[2]
+    } else {
+        sides[0]
+    }
+}
+
+/// Prints the table of all files.
+fn print_rows(name: &str, rows: &[Row]) {
+    println!("| shape | nodes | {name} ns/file | plain ns/file | {name} ns/node | plain ns/node | ratio |");
+    println!("|---|---:|---:|---:|---:|---:|---:|");
+    for Row { entry, slow, plain } in rows {
+        let nodes = entry.nodes as f64;
+        println!(
+            "| {} | {} | {slow:.0} | {plain:.0} | {:.2} | {:.2} | {:.2} |",
+            entry.shape,
+            entry.nodes,
+            slow / nodes,
+            plain / nodes,
+            slow / plain
+        );
+    }
+}
+
+/// Prints the ratios' range and the greatest time for each size, over the files whose nodes are read.
+fn print_summary(name: &str, rows: &[Row]) {
+    println!("\n| size | least ratio | median ratio | greatest ratio | slowest {name} ns/file | its shape |");
+    println!("|---:|---:|---:|---:|---:|---|");
+    for size in SIZES {
+        let own: Vec<&Row> =
+            rows.iter().filter(|row| row.entry.size == size && row.entry.reads_nodes).collect();
+        let mut ratios: Vec<f64> = own.iter().map(|row| row.slow / row.plain).collect();
+        ratios.sort_by(f64::total_cmp);
+        let slowest = own.iter().max_by(|a, b| a.slow.total_cmp(&b.slow));
+        if let (Some(least), Some(greatest), Some(slowest)) =
+            (ratios.first(), ratios.last(), slowest)
+        {
+            println!(
+                "| {size} | {least:.2} | {:.2} | {greatest:.2} | {:.0} | {} |",
+                ratios[ratios.len() / 2],
+                slowest.slow,
+                slowest.entry.shape
+            );
+        }
+    }
+}
+
+/// Times every file on both sides.
+fn run() {
+    let side = judged(&sides());
+    let rows: Vec<Row> = entries()
+        .into_iter()
+        .map(|entry| {
+            let checks = [side.check, reference::fast::check];
+            assert_eq!(checks[0](&entry.file), checks[1](&entry.file), "{}", entry.shape);
+            let [slow, plain] = medians(&entry.file, checks);
+            Row { entry, slow, plain }
+        })
+        .collect();
+    print_rows(side.name, &rows);
+    print_summary(side.name, &rows);
+}
+
+/// Runs on a thread whose stack holds the deepest trees.
+fn main() -> std::process::ExitCode {
+    let thread = std::thread::Builder::new().stack_size(64 << 20).spawn(run);
+    let done = matches!(thread.map(|t| t.join()), Ok(Ok(())));
+    std::process::ExitCode::from(u8::from(!done))
+}

@@ -1,0 +1,17 @@
+//! Procedure files built from trees, drawn at random, and spoilt.
+
+pub mod aimed;
+mod draw;
+mod draw_stmt;
+pub mod late;
+pub mod noise;
+mod plan;
+pub mod record;
+pub mod rng;
+pub mod shapes;
+pub mod tree;
+pub mod valid;
+
+pub use plan::Names;
+pub use record::File;
+pub use tree::{file, Function};

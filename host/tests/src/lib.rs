@@ -1,0 +1,28 @@
+//! The worked files with their answers, and the sides that are asked.
+
+pub mod case;
+#[cfg(feature = "proved")]
+pub mod proved;
+pub mod random;
+pub mod report;
+pub mod worked;
+
+/// What a check answers: none if the file is accepted.
+pub type Answer = Option<reference::Refusal>;
+
+/// A check under test.
+#[derive(Clone, Copy)]
+pub struct Side {
+    pub name: &'static str,
+    pub check: fn(&[u8]) -> Answer,
+}
+
+/// The checks under test: the reference, the fast one, and the proved one where it is linked.
+pub fn sides() -> Vec<Side> {
+    vec![
+        Side { name: "reference", check: reference::check },
+        Side { name: "fast", check: reference::fast::check },
+        #[cfg(feature = "proved")]
+        Side { name: "proved", check: proved::check },
+    ]
+}
