@@ -1,0 +1,7 @@
+pub mod Words
+pub mod Sums
+pub mod Casts
+pub mod Divisions
+pub mod Numbers
+pub mod Gives
+pub mod Samples
