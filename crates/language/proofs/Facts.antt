@@ -105,6 +105,10 @@ module _ (s : List ℕ) (f : ℕ) (a b : ℕ) where
   unfolding fieldsOk fields
   variable-fields e = ltb-true b (varsOf s f) (and-right (eqb a 0) _ e)
 
+  pub operator-fields : fieldsOk s f 3 a b ≡ true → a < 16
+  unfolding fieldsOk fields
+  operator-fields e = ltb-true a 16 (and-left (ltb a 16) _ e)
+
   pub assign-fields : fieldsOk s f 8 a b ≡ true → b < varsOf s f
   unfolding fieldsOk fields
   assign-fields e = ltb-true b (varsOf s f) (and-right (eqb a 0) _ e)
