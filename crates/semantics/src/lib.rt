@@ -1,0 +1,1 @@
+// The machine of the papers as definitions: states, rules, fitness and runs.
