@@ -19,5 +19,6 @@ pub mod Operands
 pub mod Nodes
 pub mod Checked
 pub mod Files
-pub mod Constants
 pub mod Safety
+pub mod SampleFiles
+pub mod Samples

@@ -10,9 +10,8 @@ use Rattle.semantics.specs.Fit.{Within, Fit}
 use Rattle.semantics.specs.Run.{carry, ReadsHeld, allHeld, Going, runOf}
 use Rattle.semantics.specs.File.{programOf}
 use Rattle.semantics.proofs.Files.{accepted-program}
-use Rattle.semantics.proofs.Constants.{const-words}
+use Rattle.semantics.proofs.Words.{file-words, words-kept}
 use Rattle.semantics.proofs.Keep.{keep}
-use Rattle.semantics.proofs.Words.{words-kept}
 use Rattle.semantics.proofs.Progress.{One, exactly-one, final-none, start-fit}
 use Rattle.semantics.proofs.History.{carried, reads-held}
 use Rattle.semantics.proofs.Typed.{Typed, typed}
@@ -35,7 +34,7 @@ module _ (s : List ℕ) (bytes : (i : ℕ) → getD s i 0 < 256) (passed : check
   -- the state that a rule gives is fit when it keeps the limits
   pub stays-fit : {r : Rule} {v : Event} {σ τ : State} → Fit (programOf s) σ → Step (programOf s) r v σ τ → Within τ → Fit (programOf s) τ
   stays-fit h k w =
-      record { words = words-kept (programOf s) (const-words s bytes) k (h .words); within = w; proper = keep (accepted-program s passed) k (h .proper) }
+      record { words = words-kept (programOf s) (file-words s bytes) k (h .words); within = w; proper = keep (accepted-program s passed) k (h .proper) }
 
   -- "every value held in a variable or in unfinished work has its declared type"
   pub values-typed : (σ : State) → Fit (programOf s) σ → Typed (programOf s) σ
@@ -51,4 +50,4 @@ module _ (s : List ℕ) (bytes : (i : ℕ) → getD s i 0 < 256) (passed : check
 
   -- a run goes rule by rule to where it must stop, reads no empty variable on the way, and ends in a fit state
   pub runs-well : (a : ℕ) (σ : State) → Fit (programOf s) σ → Good (programOf s) σ (allHeld σ) a (runOf (programOf s) a σ)
-  runs-well a σ h = ran (accepted-program s passed) (const-words s bytes) a σ (allHeld σ) h refl
+  runs-well a σ h = ran (accepted-program s passed) (file-words s bytes) a σ (allHeld σ) h refl
