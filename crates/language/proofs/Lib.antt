@@ -10,3 +10,4 @@ pub mod Rules
 pub mod Flows
 pub mod Subtrees
 pub mod Scoping
+pub mod Places
