@@ -11,3 +11,4 @@ pub mod Flows
 pub mod Subtrees
 pub mod Scoping
 pub mod Places
+pub mod Refusals

@@ -1,4 +1,4 @@
--- The place that a question of nodes names is the lowest failing record; that of question 13 is the lowest read of a variable without a value.
+-- What question 13 finds in a statement is the lowest read of a variable without a value.
 use mathlib.Core.Path.{_≡_, refl, sym, _∙_}
 use mathlib.Core.Logic.{_↔_, _⊎_, inl, inr, ⊎-elim}
 use mathlib.Core.Bool.{Bool, true, false, not, _||_}
