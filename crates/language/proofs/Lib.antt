@@ -12,3 +12,4 @@ pub mod Subtrees
 pub mod Scoping
 pub mod Places
 pub mod Refusals
+pub mod Verdicts

@@ -1,29 +1,26 @@
 -- What question 13 finds in a statement is the lowest read of a variable without a value.
-use mathlib.Core.Path.{_≡_, refl, sym, _∙_}
-use mathlib.Core.Logic.{_↔_, _⊎_, inl, inr, ⊎-elim}
-use mathlib.Core.Bool.{Bool, true, false, not, _||_}
-use mathlib.Core.List.{List, [], _∷_, List·Memᴰ·head, List·Memᴰ·tail, List·Memᴰ·not-nil, List·Memᴰ·cases-cons}
+use mathlib.Core.Path.{_≡_, refl}
+use mathlib.Core.Logic.{_⊎_, inl, inr, ⊎-elim}
+use mathlib.Core.Bool.{Bool, true, false}
+use mathlib.Core.List.{List, _∷_, List·Memᴰ·head, List·Memᴰ·tail, List·Memᴰ·not-nil, List·Memᴰ·cases-cons}
 use Prim.Native.Nat.{ℕ, zero, suc, _+_, _-_, _≤_, _<_}
 use native.Mathlib.Omega.{arith}
 use native.Mathlib.Nat.{le-refl, le-trans}
-use native.Mathlib.Decide.{decLt, ℕ-discrete}
+use native.Mathlib.Decide.{ℕ-discrete}
 use lib.Dec.{eqb}
 use Rattle.varset.specs.Lowest.{pick}
-use Rattle.varset.specs.Sets.{Set, without, below}
-use Rattle.records.specs.Fields.{functions, paramsOf, countOf, kindAt, aAt, bAt, sizeAt}
-use Rattle.records.specs.Parts.{startOf, partOf}
-use Rattle.records.specs.Search.{firstOf, shift, orElse, firstIn}
+use Rattle.varset.specs.Sets.{Set, without}
+use Rattle.records.specs.Fields.{kindAt, aAt, bAt, sizeAt}
+use Rattle.records.specs.Search.{orElse}
 use Rattle.records.specs.Children.{arities, arityOf}
 use Rattle.records.specs.declared.Found.{Found}
 use Rattle.records.specs.declared.Found.the-variants.{At, Nothing}
 use Rattle.records.proofs.Bools.{clash}
-use Rattle.records.proofs.Loops.{found-below, none-found, first-lowest}
 use Rattle.language.specs.Statements.{Read, read, readsFrom, readsOf, prior, last, Statement, Nop, Seq, Assign, Decl, If, While, Return, Assert, Expr, statementAt}
 use Rattle.language.specs.Flow.{leaves, missing, lacks}
-use Rattle.language.specs.Known.{Known}
 use Rattle.language.proofs.Flows.{Listed}
 use Rattle.language.proofs.Tiles.{Sizes, size-fits}
-use Rattle.language.proofs.Trees.{by-kind, lacking-item}
+use Rattle.language.proofs.Trees.{by-kind}
 use Rattle.language.proofs.Subtrees.{Child, back, child-at}
 use Rattle.language.proofs.Scoping.{strongly}
 
@@ -84,9 +81,15 @@ module _ (t : List ℕ) (d : Set) where
       rest : List Read
       rest = readsFrom t m (suc i)
 
-      -- a read at node i, before those of the rest
+      -- one of the reads after that of node i
       inner : (j : ℕ) → (d (bAt t i) ≡ false → j ≡ i → ⊥) → Empty (read i (bAt t i) ∷ rest) d j → Empty rest d j
-      inner j n r = ⊎-elim (λ (e : read j (r .variable) ≡ read i (bAt t i)). let p : j ≡ i = cc in let q : bAt t i ≡ r .variable = cc in absurd (n (rw q (r .empty)) p)) (λ l. record { variable = r .variable; listed = l; empty = r .empty }) (List·Memᴰ·cases-cons (r .listed))
+      inner j n r = ⊎-elim here (λ l. record { variable = r .variable; listed = l; empty = r .empty }) (List·Memᴰ·cases-cons (r .listed))
+        where
+          here : read j (r .variable) ≡ read i (bAt t i) → Empty rest d j
+          here e =
+              let p : j ≡ i = cc in
+              let q : bAt t i ≡ r .variable = cc in
+              absurd (n (rw q (r .empty)) p)
 
       outer : (j : ℕ) → Empty rest d j → Empty (read i (bAt t i) ∷ rest) d j
       outer j r = record { variable = r .variable; listed = List·Memᴰ·tail (r .listed); empty = r .empty }
