@@ -61,7 +61,7 @@ none-unless : (b : Bool) (p : ℕ) → b ≡ true → unless b p ≡ Nothing
 unfolding unless
 none-unless b p e = rw e
 
-shift-none : (k : ℕ) (a : Found) → shift k a ≡ Nothing → a ≡ Nothing
+pub shift-none : (k : ℕ) (a : Found) → shift k a ≡ Nothing → a ≡ Nothing
 unfolding shift
 shift-none k (At i x) e = let z : _≡_ {A = ℕ} 0 1 = cc in absurd (omega arith)
 shift-none k Nothing e = refl

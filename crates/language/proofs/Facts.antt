@@ -68,7 +68,7 @@ function-is s f e =
     }
 
 -- the parts before m lie below the sum of the first m counts
-sum-more : (s : List ℕ) (f m : ℕ) → f < m → sumOf s f + countOf s f ≤ sumOf s m
+pub sum-more : (s : List ℕ) (f m : ℕ) → f < m → sumOf s f + countOf s f ≤ sumOf s m
 unfolding sumOf
 sum-more s f zero h = absurd (not-suc-le-zero h)
 sum-more s f (suc m) h = go (ltb f m) refl (sum-more s f m)

@@ -10,3 +10,6 @@ pub mod Rules
 pub mod Flows
 pub mod Subtrees
 pub mod Scoping
+pub mod Places
+pub mod Refusals
+pub mod Verdicts

@@ -83,3 +83,12 @@ none-found p n e = go (ltb (lowest p n) n) refl e
     go false q e =
         let l : n ≤ lowest p n = ltb-false (lowest p n) n q in
         λ k h. lowest-below p n k (omega arith)
+
+-- what is found passes, and none below it does
+pub first-lowest : (p : ℕ → Bool) (n k x : ℕ) → firstOf p n ≡ At k x → (p k ≡ true) × Below p k
+unfolding firstOf
+first-lowest p n k x e = go (ltb (lowest p n) n) refl e
+  where
+    go : (b : Bool) → ltb (lowest p n) n ≡ b → pick b (At (lowest p n) 0) Nothing ≡ At k x → (p k ≡ true) × Below p k
+    go true q e = let j : k ≡ lowest p n = cc in rw j (lowest-passes p n (ltb-true (lowest p n) n q), lowest-below p n)
+    go false q e = let z : _≡_ {A = ℕ} 0 1 = cc in absurd (omega arith)
