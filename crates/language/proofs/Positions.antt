@@ -1,6 +1,6 @@
 -- Question 9 means that every child and every body is of the sort that its position wants.
-use mathlib.Core.Path.{_≡_, refl, sym, ap, _∙_}
-use mathlib.Core.Bool.{Bool, true, false, not, _&&_, _||_}
+use mathlib.Core.Path.{_≡_, refl, sym}
+use mathlib.Core.Bool.{Bool, true, false, _&&_, _||_}
 use mathlib.Core.List.{List, [], _∷_}
 use Prim.Native.Nat.{ℕ, zero, suc, _+_, _-_, _≤_, _<_}
 use native.Mathlib.Omega.{arith}
@@ -10,16 +10,17 @@ use lib.Dec.{eqb}
 use lib.ListN.{length}
 use borrow.Author.Tests.{eqb-true, eqb-false, eq-eqb}
 use Rattle.varset.specs.Lowest.{pick}
+use Rattle.records.proofs.Children.{length-walk}
 use Rattle.records.specs.Fields.{functions, countOf, kindAt, sizeAt}
 use Rattle.records.specs.Parts.{partOf}
-use Rattle.records.specs.Children.{arityAt, walk, children}
+use Rattle.records.specs.Children.{arityAt, children}
 use Rattle.records.proofs.Bools.{or-false-left, or-false-right}
 use Rattle.language.specs.Sorts.{differ, isExpression, wantsExpression, wrongSort}
 use Rattle.language.specs.Nodes.{wrongChild, some, misplaced}
 use Rattle.language.proofs.Facts.{sized-is}
 use Rattle.language.proofs.Accept.{Accepted, parts}
 use Rattle.language.proofs.Tiles.{Tiles, none, more, Sizes, tiled, Each}
-use Rattle.language.proofs.Typings.{nth, length-walk}
+use Rattle.language.proofs.Typings.{nth}
 
 -- the nodes of tiles lie below their end
 tiles-below : {size : ℕ → ℕ} {hi lo : ℕ} {cs : List ℕ} (i : ℕ) → hi ≤ i → Tiles size hi lo cs → Each (λ c. c < i) cs

@@ -11,6 +11,7 @@ use lib.ListN.{length}
 use borrow.Author.Tests.{eqb-true, eqb-false, eq-eqb, ne-eqb, ltb-true}
 use Rattle.varset.specs.Lowest.{pick}
 use Rattle.varset.specs.Sets.{Set}
+use Rattle.records.proofs.Children.{length-walk}
 use Rattle.records.specs.Fields.{functions, countOf, kindAt, aAt, bAt, sizeAt}
 use Rattle.records.specs.Parts.{partOf}
 use Rattle.records.specs.Children.{arities, arityOf, arityAt, walk, children}
@@ -20,7 +21,7 @@ use Rattle.language.specs.Statements.{prior, last, read, readsFrom, read
 use Rattle.language.specs.Nodes.{total}
 use Rattle.language.proofs.Accept.{Accepted}
 use Rattle.language.proofs.Tiles.{Tiles, none, more, Sizes, size-fits, tiled, Each, descend, nested}
-use Rattle.language.proofs.Typings.{nth, length-walk}
+use Rattle.language.proofs.Typings.{nth}
 use Rattle.language.proofs.Positions.{each-nth, sizes, child-sort}
 use Rattle.language.proofs.Flows.{Reads, Listed, reads-listed, listed-reads}
 

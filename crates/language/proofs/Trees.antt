@@ -1,7 +1,7 @@
 -- The statement at a node, level by level: each kind's, from the statements and reads at its children. No shape is asked for.
 use mathlib.Core.Path.{_≡_, refl}
 use mathlib.Core.Bool.{Bool, true, false, _&&_}
-use mathlib.Core.List.{List, [], _∷_}
+use mathlib.Core.List.{List, _∷_}
 use Prim.Native.Nat.{ℕ, zero, suc, _+_, _-_, _≤_, _<_}
 use native.Mathlib.Nat.{not-suc-le-zero, le-of-suc-le-suc, le-trans, le-refl, sub-le}
 use native.Mathlib.Omega.{arith}
@@ -15,19 +15,10 @@ use Rattle.records.specs.Fields.{kindAt, bAt, sizeAt}
 use Rattle.records.specs.Search.{orElse}
 use Rattle.records.specs.declared.Found.{Found}
 use Rattle.records.specs.declared.Found.the-variants.{At, Nothing}
+use Rattle.records.proofs.Tables.{each-at}
 use Rattle.language.specs.Statements.{Shape, nop, seq, assign, decl, if, while, return, assert, expr, stray, prior, last, shapes, shapeAt, read, readsFrom, readsOf, Statement, Nop, Seq, Assign, Decl, If, While, Return, Assert, Expr, grow, statementIn, statementAt}
 use Rattle.language.specs.Flow.{leaves, missing, lacks}
 use Rattle.language.specs.Known.{Known}
-
--- the shapes of the kinds from 0 on have a property
-abbrev Each : (ℕ → Shape → Type 0) → List Shape → Type 0
-Each P [] = Unit {0}
-Each P (s ∷ ss) = P 0 s × Each (λ k. P (suc k)) ss
-
-each-at : (P : ℕ → Shape → Type 0) (ss : List Shape) → Each P ss → ((k : ℕ) → P k stray) → (k : ℕ) → P k (getD ss k stray)
-each-at P [] h z k = z k
-each-at P (s ∷ ss) h z zero = h .0
-each-at P (s ∷ ss) h z (suc k) = each-at (λ k. P (suc k)) ss (h .1) (λ k. z (suc k)) k
 
 -- a property of each kind's shape
 by-shape : (t : List ℕ) (i : ℕ) (P : ℕ → Shape → Type 0) → ((k : ℕ) → P k stray) → P 6 nop
@@ -42,7 +33,7 @@ by-shape : (t : List ℕ) (i : ℕ) (P : ℕ → Shape → Type 0) → ((k : ℕ
     → P (kindAt t i) (shapeAt t i)
 unfolding shapeAt shapes
 by-shape t i P z n s a d f w r c e =
-    each-at P (shapes t i) (z 0, (z 1, (z 2, (z 3, (z 4, (z 5, (n, (s, (a, (d, (f, (w, (r, (c, (e, tt))))))))))))))) z (kindAt t i)
+    each-at P (shapes t i) stray (z 0, (z 1, (z 2, (z 3, (z 4, (z 5, (n, (s, (a, (d, (f, (w, (r, (c, (e, tt))))))))))))))) z (kindAt t i)
 
 -- children lie below their parent
 last-below : (i : ℕ) → last (suc i) ≤ i

@@ -1,9 +1,9 @@
 -- Question 12, one theorem for each line of the paper, of every node of an accepted file.
-use mathlib.Core.Path.{_≡_, refl, sym, ap}
+use mathlib.Core.Path.{_≡_, refl, sym}
 use mathlib.Core.Logic.{_⊎_, ⊎-elim}
 use mathlib.Core.Bool.{Bool, true, false, not, _&&_}
 use mathlib.Core.List.{List, [], _∷_}
-use Prim.Native.Nat.{ℕ, zero, suc, _-_, _/_, _%_, _^_, _≤_, _<_}
+use Prim.Native.Nat.{ℕ, _-_, _/_, _%_, _^_, _≤_, _<_}
 use native.Mathlib.Omega.{arith}
 use native.Mathlib.Nat.{mod-lt, zero-lt-suc, not-suc-le-zero}
 use lib.Dec.{eqb, ltb}
@@ -13,6 +13,7 @@ use Rattle.varset.specs.Lowest.{pick}
 use Rattle.records.specs.Fields.{functions, resultOf, paramsOf, varsOf, maskOf, countOf, kindAt, aAt, bAt, sizeAt}
 use Rattle.records.specs.Parts.{partOf}
 use Rattle.records.specs.Children.{arities, arityOf, arityAt, walk, children}
+use Rattle.records.proofs.Children.{length-walk}
 use Rattle.records.proofs.Bools.{and-left, and-right}
 use Rattle.language.specs.Statements.{prior, last}
 use Rattle.language.specs.Scopes.{declaresAt, declOf}
@@ -46,11 +47,6 @@ agree-nth want type (c ∷ cs) e k h = go (eqb k (length cs)) refl (agree-nth wa
     go : (b : Bool) → eqb k (length cs) ≡ b → (k < length cs → suits (want k) (type (nth k cs)) ≡ true) → suits (want k) (type (pick b c (nth k cs))) ≡ true
     go true q r = rw (eqb-true k (length cs) q) (and-left (suits (want (length cs)) (type c)) _ e)
     go false q r = let n : k ≡ length cs → ⊥ = eqb-false k (length cs) q in r (omega arith)
-
-pub length-walk : (size : ℕ → ℕ) (m c : ℕ) → length (walk size m c) ≡ m
-unfolding walk
-length-walk size zero c = refl
-length-walk size (suc m) c = ap suc (length-walk size m (c - size c))
 
 -- the children of nodes with one, two and three
 one-child : (t : List ℕ) (i : ℕ) → arityAt t i ≡ 1 → children t i ≡ last i ∷ []

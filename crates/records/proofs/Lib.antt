@@ -3,3 +3,5 @@ pub mod Ranges
 pub mod Arities
 pub mod Loops
 pub mod Parts
+pub mod Tables
+pub mod Children

@@ -1,7 +1,6 @@
 pub mod Accepted
 pub mod Table
 pub mod Holding
-pub mod Tables
 pub mod Operators
 pub mod One
 pub mod Moves

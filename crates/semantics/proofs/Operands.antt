@@ -6,10 +6,11 @@ use native.Mathlib.Nat.{not-suc-le-zero}
 use native.Mathlib.Omega.{arith}
 use lib.ListN.{getD, length}
 use borrow.Author.Tests.{eq-eqb, ne-eqb}
+use Rattle.records.proofs.Children.{length-walk}
 use Rattle.records.specs.Fields.{sizeAt}
 use Rattle.records.specs.Children.{arityAt, children}
 use Rattle.language.proofs.Tiles.{Each}
-use Rattle.language.proofs.Typings.{nth, length-walk}
+use Rattle.language.proofs.Typings.{nth}
 use Rattle.semantics.specs.File.{backwards, kids, typesFrom}
 use Rattle.semantics.proofs.Accepted.{Real}
 

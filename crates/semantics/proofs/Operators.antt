@@ -14,7 +14,7 @@ use Rattle.arith.specs.declared.Applied.{Applied}
 use Rattle.arith.specs.declared.Applied.the-variants.{Int, Truth, Arith}
 use Rattle.semantics.specs.Values.{Value, int, truth, tInt, tBool, typeV, given, result}
 use Rattle.semantics.specs.Fit.{Word}
-use Rattle.semantics.proofs.Tables.{each-at}
+use Rattle.records.proofs.Tables.{each-at}
 
 pub wrap-word : (z : ℤ) → wrap z < 2 ^ 32
 unfolding wrap

@@ -3,7 +3,6 @@ use mathlib.Core.Path.{_≡_, refl}
 use mathlib.Core.List.{List}
 use Prim.Native.Nat.{ℕ, _<_}
 use lib.ListN.{getD}
-use Rattle.varset.specs.Sets.{Set}
 use Rattle.language.specs.Check.{accepted, checkOf}
 use Rattle.semantics.specs.Machine.{State, main, calm, Rule, Event, Step}
 use Rattle.semantics.specs.Fit.{Within, Fit}

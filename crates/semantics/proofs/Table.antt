@@ -1,6 +1,6 @@
 -- The runs of document 01, from the bytes of each file.
 use mathlib.Core.Path.{_≡_, refl}
-use mathlib.Core.Bool.{Bool, true, false}
+use mathlib.Core.Bool.{false}
 use mathlib.Core.List.{List, [], _∷_, _++_, map}
 use Prim.Native.Nat.{ℕ}
 use Rattle.varset.specs.Lowest.{lowest}

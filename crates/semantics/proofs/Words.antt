@@ -17,7 +17,7 @@ use Rattle.semantics.specs.Program.{Look, const, apply, Fun, Program}
 use Rattle.semantics.specs.Machine.{State, Rule, Event, reach, reachL, blank, entered, Step}
 use Rattle.semantics.specs.Fit.{Word, Words, ControlWord, InWords}
 use Rattle.semantics.proofs.Operators.{result-word}
-use Rattle.semantics.proofs.Tables.{each-at}
+use Rattle.records.proofs.Tables.{each-at}
 
 -- the ints among a program's constants are words
 abbrev pub ConstWords : Program → Type 0

@@ -10,6 +10,7 @@ use lib.Dec.{eqb}
 use lib.ListN.{length}
 use borrow.Author.Tests.{eq-eqb, ne-eqb, lt-ltb, le-ltb}
 use Rattle.varset.specs.Lowest.{pick, lowest}
+use Rattle.records.proofs.Children.{length-walk}
 use Rattle.records.specs.Fields.{kindAt, sizeAt}
 use Rattle.records.specs.Search.{firstOf}
 use Rattle.records.specs.Children.{walk, children}
@@ -27,11 +28,6 @@ lower-one r w n low c h =
     go : (w : Bool) → lowest r n ≤ n → min low (min (pick w c n) (lowest r n)) ≡ min (pick w (min low c) low) (lowest r n)
     go true l = omega arith
     go false l = omega arith
-
-length-walk : (size : ℕ → ℕ) (m last : ℕ) → length (walk size m last) ≡ m
-unfolding walk
-length-walk size zero last = refl
-length-walk size (suc m) last = ap suc (length-walk size m (last - size last))
 
 -- one child more, of j children that end at c
 pub child-step : (t : List ℕ) (kind n low j c : ℕ) → 0 < j → c < n

@@ -9,17 +9,13 @@ use lib.ListN.{getD, set, length}
 use lib.Seq.{getD-set-same, getD-set-other}
 use borrow.Author.Tests.{not-true, not-false}
 use borrow.Author.Count.{below-more}
+use Rattle.records.proofs.Children.{length-walk}
 use Rattle.records.specs.Fields.{sizeAt}
 use Rattle.records.specs.Children.{arityAt, walk, children}
 use Rattle.language.specs.Types.{typeAt, wantAt, suits, agree}
 use Rattle.language.specs.Nodes.{mistyped}
 use Rattle.language.specs.Known.{Known}
 use Rattle.typing.specs.Types.{Typed}
-
-walk-length : (size : ℕ → ℕ) (m last : ℕ) → length (walk size m last) ≡ m
-unfolding walk
-walk-length size zero last = refl
-walk-length size (suc m) last = ap suc (walk-length size m (last - size last))
 
 -- what is left of the children where j are left, the last of them c
 module _ (want type size : ℕ → ℕ) (j c : ℕ) where
@@ -29,7 +25,7 @@ module _ (want type size : ℕ → ℕ) (j c : ℕ) where
     where
       go : (j : ℕ) → 0 < j → agree want type (walk size j c) ≡ suits (want (j - 1)) (type c) && agree want type (walk size (j - 1) (c - size c))
       go zero h = absurd (not-suc-le-zero h)
-      go (suc j) h = let e : suc j - 1 ≡ j = omega arith in rw (walk-length size j (c - size c), e)
+      go (suc j) h = let e : suc j - 1 ≡ j = omega arith in rw (length-walk size j (c - size c), e)
 
   -- the last of them is not suited
   pub agree-not : (whole r : Bool) (w : ℕ) → whole ≡ agree want type (walk size j c) → 0 < j → w ≡ want (j - 1) → r ≡ suits w (type c) → not r ≡ true → false ≡ whole

@@ -1,0 +1,7 @@
+pub mod Blocks
+pub mod Tests
+pub mod Stacks
+pub mod Entries
+pub mod Walks
+pub mod Segments
+pub mod Samples

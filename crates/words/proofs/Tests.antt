@@ -1,0 +1,73 @@
+-- Words that are all zero, and words that are the same.
+use mathlib.Core.Path.{_≡_, refl, ap, _∙_}
+use mathlib.Core.Bool.{Bool, true, false, _&&_, and-false, false≢true}
+use mathlib.Core.List.{List, [], _∷_, _++_, append-nil}
+use Prim.Native.Nat.{ℕ, zero, suc, _+_, _<_}
+use native.Mathlib.Numerals.{add-one}
+use lib.Dec.{eqb}
+use lib.ListN.{drop, length, getD, replicate}
+use lib.Seq.{drop-cons, drop-length}
+use borrow.Author.Tests.{eq-eqb, ne-eqb, eqb-true}
+use Rattle.words.specs.Blocks.{allZero, eqWords}
+
+-- both of two tests
+pub both : (a b : Bool) → (a && b) ≡ true → (a ≡ true) × (b ≡ true)
+both true b e = (refl, e)
+both false b e = absurd (false≢true e)
+
+pub all-zeros : (l : List ℕ) → allZero l ≡ true → l ≡ replicate (length l) 0
+all-zeros [] h = refl
+all-zeros (x ∷ l) h =
+    let t = both (eqb x 0) (allZero l) h in
+    let e : x ≡ 0 = eqb-true x 0 (t .0) in
+    let q : l ≡ replicate (length l) 0 = all-zeros l (t .1) in
+    cc
+
+pub zeros-all : (n : ℕ) → allZero (replicate n 0) ≡ true
+zeros-all zero = refl
+zeros-all (suc n) = zeros-all n
+
+pub same-eq : (a b : List ℕ) → eqWords a b ≡ true → a ≡ b
+same-eq [] [] e = refl
+same-eq [] (y ∷ b) e = absurd (false≢true e)
+same-eq (x ∷ a) [] e = absurd (false≢true e)
+same-eq (x ∷ a) (y ∷ b) e =
+    let t = both (eqb x y) (eqWords a b) e in
+    let h : x ≡ y = eqb-true x y (t .0) in
+    let r : a ≡ b = same-eq a b (t .1) in
+    cc
+
+pub eq-same : (a : List ℕ) → eqWords a a ≡ true
+eq-same [] = refl
+eq-same (x ∷ a) = rw (eq-eqb x x refl) (eq-same a)
+
+-- lists of two lengths are not the same
+pub same-length : (a b : List ℕ) → (length a ≡ length b → ⊥) → eqWords a b ≡ false
+same-length [] [] n = absurd (n refl)
+same-length [] (y ∷ b) n = refl
+same-length (x ∷ a) [] n = refl
+same-length (x ∷ a) (y ∷ b) n = rw (same-length a b (λ e. n (ap suc e))) (and-false (eqb x y))
+
+-- ---- the loops that go over words from the first on
+
+module _ (l : List ℕ) (i : ℕ) (h : i < length l) where
+  pub zero-more : getD l i 0 ≡ 0 → allZero (drop i l) ≡ allZero (drop (i + 1) l)
+  zero-more e = rw (add-one, drop-cons l i 0 h, e)
+
+  pub zero-less : (getD l i 0 ≡ 0 → ⊥) → allZero (drop i l) ≡ false
+  zero-less n = rw (drop-cons l i 0 h, ne-eqb (getD l i 0) 0 n)
+
+module _ (a b : List ℕ) (i : ℕ) (ha : i < length a) (hb : i < length b) where
+  pub same-more : getD a i 0 ≡ getD b i 0 → eqWords (drop i a) (drop i b) ≡ eqWords (drop (i + 1) a) (drop (i + 1) b)
+  same-more e = rw (add-one, drop-cons a i 0 ha, drop-cons b i 0 hb, eq-eqb (getD a i 0) (getD b i 0) e)
+
+  pub same-less : (getD a i 0 ≡ getD b i 0 → ⊥) → eqWords (drop i a) (drop i b) ≡ false
+  same-less n = rw (drop-cons a i 0 ha, drop-cons b i 0 hb, ne-eqb (getD a i 0) (getD b i 0) n)
+
+-- past the last word nothing is left
+pub ended : (l : List ℕ) (i : ℕ) → length l ≡ i → drop i l ≡ []
+ended l i h = rw (← h) (drop-length l)
+
+-- a list that is filled up to its end
+pub filled : (l s : List ℕ) (i : ℕ) → length l ≡ i → s ≡ replicate i 0 ++ drop i l → s ≡ replicate (length l) 0
+filled l s i h e = e ∙ rw (ended l i h, h) (append-nil (replicate i 0))

@@ -1,0 +1,4 @@
+pub mod Blocks
+pub mod Stacks
+pub mod Walks
+pub mod Segments

@@ -1,0 +1,68 @@
+// Lists of words: cleared, copied, tested for zeros, compared.
+ghost use mathlib.Core.Path.{_≡_};
+ghost use Prim.Native.Nat.{_+_, _≤_};
+ghost use lib.ListN.{take, drop, length, replicate};
+ghost use Rattle.words.specs.Blocks.{puts, allZero, eqWords};
+
+// Sets every word to zero.
+pub fn zero(s: &mut [u32])
+    ensures { λ _. ⌜ now (s .exit) ≡ replicate (length (now (s .entry))) 0 ⌝ }
+{
+    let mut done = 0;
+    while done < s.len() {
+        s[done] = 0;
+        done += 1;
+    }
+}
+
+// Sets the n words at a place to zero.
+pub fn zero_at(m: &mut [u32], at: usize, n: usize)
+    requires { ⌜ at + n ≤ length (now m) ⌝ }
+    ensures { λ _. ⌜ now (m .exit) ≡ puts (now (m .entry)) at 0 (replicate n 0) ⌝ }
+{
+    let end = at + n;
+    zero(&mut m[at..end]);
+}
+
+// Copies the n words at a place to a place that is not above it.
+pub fn copy_down(m: &mut [u32], from: usize, to: usize, n: usize)
+    requires { ⌜ (to ≤ from) × (from + n ≤ length (now m)) ⌝ }
+    ensures { λ _. ⌜ now (m .exit) ≡ puts (now (m .entry)) to 0 (take n (drop from (now (m .entry)))) ⌝ }
+{
+    let mut i = 0;
+    while i < n {
+        m[to + i] = m[from + i];
+        i += 1;
+    }
+}
+
+// Whether every word is zero.
+pub fn all_zero(s: &[u32]) -> bool
+    ensures { λ r. ⌜ r ≡ allZero (now (s .entry)) ⌝ }
+{
+    let mut i = 0;
+    while i < s.len() {
+        if s[i] != 0 {
+            return false;
+        }
+        i += 1;
+    }
+    true
+}
+
+// Whether two lists have the same words.
+pub fn same_words(a: &[u32], b: &[u32]) -> bool
+    ensures { λ r. ⌜ r ≡ eqWords (now (a .entry)) (now (b .entry)) ⌝ }
+{
+    if a.len() != b.len() {
+        return false;
+    }
+    let mut i = 0;
+    while i < a.len() {
+        if a[i] != b[i] {
+            return false;
+        }
+        i += 1;
+    }
+    true
+}
