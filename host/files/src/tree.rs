@@ -229,7 +229,7 @@ pub fn discard(e: Expr) -> Stmt {
 mod test {
     use super::*;
 
-    /// `return 0` is the 48 bytes that the companion writes out.
+    /// `return 0` is the 48 bytes of the paper's layout.
     #[test]
     fn return_zero() {
         let bytes = main(0, ret(int(0))).bytes();

@@ -4,10 +4,10 @@ mod base;
 mod deep;
 mod flow;
 mod head;
+mod judgements;
+mod layout;
 mod limits;
 mod nodes;
-mod reading;
-mod reading_late;
 mod returns;
 mod runs;
 mod scopes;
@@ -21,8 +21,8 @@ use crate::case::Group;
 pub fn groups() -> Vec<Group> {
     vec![
         runs::group(),
-        reading::group(),
-        reading_late::group(),
+        layout::group(),
+        judgements::group(),
         limits::lengths(),
         limits::limits(),
         head::question_1(),
