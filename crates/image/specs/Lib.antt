@@ -1,0 +1,4 @@
+pub mod Layout
+pub mod Image
+pub mod Decode
+pub mod Memory
