@@ -1,0 +1,33 @@
+use Rattle.image.specs.Decode.{refOf}
+use borrow.Author.Tests.{ne-eqb}
+use native.Mathlib.Omega.{arith}
+use Rattle.store.proofs.Refs.{ref-above}
+use Rattle.store.specs.Meaning.{refIs}
+use borrow.Author.Needs.{needs}
+use Rattle.store.proofs.ref_of.Statement.{statement}
+use Rattle.store.proofs.ref_of.Tie as tie
+
+returns : tie.Need-returns
+unfolding refIs refOf
+returns c = rw (c .if1 .taken)
+
+sub-n : tie.Need-sub-n
+sub-n c = search needs
+
+sub-form : tie.Need-sub-form
+sub-form c = search needs
+
+returns-2 : tie.Need-returns-2
+unfolding refIs
+returns-2 c = rw (ref-above (c .before .before .args .word) (omega arith), c .match .keys1)
+
+returns-3 : tie.Need-returns-3
+unfolding refIs
+returns-3 c = rw (ref-above (c .before .before .args .word) (omega arith), c .match .keys2)
+
+returns-4 : tie.Need-returns-4
+unfolding refIs
+returns-4 c = rw (ref-above (c .before .before .args .word) (omega arith), ne-eqb _ 0 (c .match .rest .0 .1), ne-eqb _ 1 (c .match .rest .1))
+
+pub ref-of-spec : {M : Type 1} → statement M
+ref-of-spec = tie.close (tie.spec returns sub-n sub-form returns-2 returns-3 returns-4)
