@@ -2,3 +2,4 @@ pub mod Places
 pub mod Walk
 pub mod Rounds
 pub mod Stages
+pub mod Passing

@@ -57,7 +57,7 @@ unfolding unless
 unless-none true p e = refl
 unless-none false p e = let z : _≡_ {A = ℕ} 0 1 = cc in absurd (omega arith)
 
-none-unless : (b : Bool) (p : ℕ) → b ≡ true → unless b p ≡ Nothing
+pub none-unless : (b : Bool) (p : ℕ) → b ≡ true → unless b p ≡ Nothing
 unfolding unless
 none-unless b p e = rw e
 
@@ -73,10 +73,10 @@ none-shift k a e = rw e
 pub all-pass : (p : ℕ → Bool) (n : ℕ) → firstOf (λ i. not (p i)) n ≡ Nothing → (i : ℕ) → i < n → p i ≡ true
 all-pass p n e i h = not-false (p i) (none-found (λ i. not (p i)) n e i h)
 
-pass-all : (p : ℕ → Bool) (n : ℕ) → ((i : ℕ) → i < n → p i ≡ true) → firstOf (λ i. not (p i)) n ≡ Nothing
+pub pass-all : (p : ℕ → Bool) (n : ℕ) → ((i : ℕ) → i < n → p i ≡ true) → firstOf (λ i. not (p i)) n ≡ Nothing
 pass-all p n h = sym (first-none (λ i. not (p i)) n n (omega arith) (λ k l. rw (h k l)))
 
-none-fails : (p : ℕ → Bool) (n : ℕ) → Below p n → firstOf p n ≡ Nothing
+pub none-fails : (p : ℕ → Bool) (n : ℕ) → Below p n → firstOf p n ≡ Nothing
 none-fails p n h = sym (first-none p n n (omega arith) h)
 
 undeclared-none : (p : ℕ → Bool) (v : ℕ) → firstUndeclared (lowest p v) v ≡ Nothing → Below p v
@@ -112,7 +112,7 @@ module _ (s : List ℕ) (f : ℕ) where
 pub asked-none : (s : List ℕ) (q : ℕ) → firstIn (inPart q s) (functions s) 0 ≡ Nothing → (f : ℕ) → f < functions s → Finds s f q ≡ Nothing
 asked-none s q e f h = in-part s f q (none-in (inPart q s) (functions s) 0 e f (omega arith) (omega arith))
 
-none-asked : (s : List ℕ) (q : ℕ) → ((f : ℕ) → f < functions s → Finds s f q ≡ Nothing) → firstIn (inPart q s) (functions s) 0 ≡ Nothing
+pub none-asked : (s : List ℕ) (q : ℕ) → ((f : ℕ) → f < functions s → Finds s f q ≡ Nothing) → firstIn (inPart q s) (functions s) 0 ≡ Nothing
 none-asked s q h = none-first (inPart q s) (functions s) 0 (λ f p r. part-in s f q (h f (omega arith)))
 
 -- ---- the check accepts exactly where every record passes every question
@@ -128,7 +128,7 @@ part-asked s (suc m) q e k p r = go (eqb k q) refl (put-first q _ (partQuestions
     go true z a rest = rw (eqb-true k q z) (a .0)
     go false z a rest = let n : k ≡ q → ⊥ = eqb-false k q z in rest (a .1) (omega arith) (omega arith)
 
-asked-part : (s : List ℕ) (m q : ℕ) → ((k : ℕ) → q ≤ k → k < q + m → firstIn (inPart k s) (functions s) 0 ≡ Nothing) → put (partQuestions s m q) ≡ accepted
+pub asked-part : (s : List ℕ) (m q : ℕ) → ((k : ℕ) → q ≤ k → k < q + m → firstIn (inPart k s) (functions s) 0 ≡ Nothing) → put (partQuestions s m q) ≡ accepted
 unfolding partQuestions put
 asked-part s zero q h = refl
 asked-part s (suc m) q h = put-next q _ (partQuestions s m (suc q)) (h q (omega arith) (omega arith)) (asked-part s m (suc q) (λ k p r. h k (omega arith) (omega arith)))

@@ -173,16 +173,20 @@ module _ (s : List ℕ) (f : ℕ) (t : List ℕ) (n : ℕ) (g : Laid s) (l : f <
   pub calls : Calls (functions s) t n
   calls i h e = call-fields s f (aAt t i) (bAt t i) (at i h 5 e) .0
 
+  pub named : (i : ℕ) → i < n → namesVariable (kindAt t i) ≡ true → bAt t i < 64
+  named i h e =
+      names-cases (kindAt t i) e (λ k. omega (arith, variable-fields s f (aAt t i) (bAt t i) (at i h 2 k), g .vars f l))
+      (λ k. omega (arith, assign-fields s f (aAt t i) (bAt t i) (at i h 8 k), g .vars f l))
+      (λ k. omega (arith, decl-fields s f (aAt t i) (bAt t i) (at i h 9 k) .2, g .vars f l))
+
+  pub arguments : (i : ℕ) → i < n → kindAt t i ≡ 5 → aAt t i ≤ 8
+  arguments i h e = let c = call-fields s f (aAt t i) (bAt t i) (at i h 5 e) in omega (arith, c .1, g .params (bAt t i) (c .0))
+
   pub known : ((i : ℕ) → i < n → sizeOk t n i ≡ true) → Known t n
   known eight =
       record {
         child = λ i h. child-above t n i (sized-is t n i (eight i h));
         sized = λ i h. let z = sized-is t n i (eight i h) in omega (arith, z .size, z .inside);
-        variable =
-            λ i h e. names-cases (kindAt t i) e
-            (λ k. omega (arith, variable-fields s f (aAt t i) (bAt t i) (at i h 2 k), g .vars f l))
-            (λ k. omega (arith, assign-fields s f (aAt t i) (bAt t i) (at i h 8 k), g .vars f l))
-            (λ k. omega (arith, decl-fields s f (aAt t i) (bAt t i) (at i h 9 k) .2, g .vars f l));
-        arguments =
-            λ i h e. let c = call-fields s f (aAt t i) (bAt t i) (at i h 5 e) in omega (arith, c .1, g .params (bAt t i) (c .0));
+        variable = named;
+        arguments = arguments;
       }

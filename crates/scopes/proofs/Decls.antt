@@ -15,7 +15,7 @@ use Rattle.records.specs.Fields.{paramsOf, kindAt, bAt}
 use Rattle.language.specs.Scopes.{declaresAt, declCount, declOf, under, usesVariable}
 use Rattle.language.specs.Nodes.{outside}
 use Rattle.language.specs.Known.{Known, namesVariable}
-use Rattle.scopes.specs.Counts.{Counts, Decls}
+use Rattle.scopes.specs.Counts.{Named, Counts, Decls}
 use Rattle.scopes.specs.declared.Declared.{Declared}
 
 or-false : (a : Bool) → a || false ≡ a
@@ -169,6 +169,6 @@ pub use-known : (t : List ℕ) (n i kind : ℕ) → Known t n → i < n → kind
 unfolding namesVariable
 use-known t n i kind h l e u = (rw e u, h .variable i l (rw (e, u)))
 
-pub decl-known : (t : List ℕ) (n i : ℕ) → Known t n → i < n → kindAt t i ≡ 9 → bAt t i < 64
+pub decl-known : (t : List ℕ) (n i : ℕ) → Named t n → i < n → kindAt t i ≡ 9 → bAt t i < 64
 unfolding namesVariable usesVariable
-decl-known t n i h l e = h .variable i l (rw e)
+decl-known t n i h l e = h i l (rw e)

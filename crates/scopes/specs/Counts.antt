@@ -2,11 +2,18 @@
 use mathlib.Core.Path.{_≡_}
 use mathlib.Core.List.{List}
 use Prim.Native.Nat.{ℕ, _<_}
+use mathlib.Core.Bool.{true}
 use lib.Dec.{leb}
 use lib.ListN.{getD}
 use Rattle.varset.specs.Sets.{has}
+use Rattle.records.specs.Fields.{kindAt, bAt}
+use Rattle.language.specs.Known.{namesVariable}
 use Rattle.language.specs.Scopes.{declCount, declOf}
 use Rattle.scopes.specs.declared.Declared.{Declared}
+
+-- the variables that n nodes of a part name are below 64
+abbrev pub Named : List ℕ → ℕ → Type 0
+Named t n = (i : ℕ) → i < n → namesVariable (kindAt t i) ≡ true → bAt t i < 64
 
 -- of the first i nodes: the variables that have a decl, and those that have two
 pub record Counts (t : List ℕ) (i : ℕ) (d : Declared) : Type 0 where

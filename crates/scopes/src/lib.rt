@@ -17,7 +17,7 @@ ghost use Rattle.records.specs.Search.{firstOf};
 ghost use Rattle.language.specs.Scopes.{under, usesVariable};
 ghost use Rattle.language.specs.Nodes.{undeclared, firstUndeclared, outside};
 ghost use Rattle.language.specs.Known.{Known};
-ghost use Rattle.scopes.specs.Counts.{Counts, Decls};
+ghost use Rattle.scopes.specs.Counts.{Named, Counts, Decls};
 
 // The variables declared so far, and those declared more than once.
 pub struct Declared {
@@ -54,7 +54,7 @@ fn count_decl(part: &[u8], i: usize, d: Declared) -> Declared
 // The variables declared in a part of n nodes, and those declared more than once.
 pub fn declared_in(part: &[u8], n: usize) -> Declared
     requires inside { ⌜ 12 * n ≤ length (now part) ⌝ }
-    requires known { ⌜ Known (now part) n ⌝ }
+    requires named { ⌜ Named (now part) n ⌝ }
     ensures { λ r. ⌜ Counts (now (part .entry)) n r ⌝ }
 {
     let mut d = Declared {
@@ -73,7 +73,7 @@ pub fn declared_in(part: &[u8], n: usize) -> Declared
 pub fn first_undeclared(file: &[u8], f: usize, part: &[u8], n: usize) -> Found
     requires laid { ⌜ (12 * (1 + f) + 12 ≤ length (now file)) × (varsOf (now file) f ≤ 64) × (paramsOf (now file) f ≤ 8) ⌝ }
     requires inside { ⌜ 12 * n ≤ length (now part) ⌝ }
-    requires known { ⌜ Known (now part) n ⌝ }
+    requires named { ⌜ Named (now part) n ⌝ }
     ensures { λ r. ⌜ r ≡ firstUndeclared (lowest (undeclared (now (file .entry)) f (now (part .entry)) n) (varsOf (now (file .entry)) f)) (varsOf (now (file .entry)) f) ⌝ }
 {
     let d = declared_in(part, n);
@@ -91,7 +91,7 @@ pub fn first_undeclared(file: &[u8], f: usize, part: &[u8], n: usize) -> Found
 // The decl of each variable of a part of n nodes.
 pub fn decl_table(part: &[u8], n: usize) -> [usize; 64]
     requires inside { ⌜ 12 * n ≤ length (now part) ⌝ }
-    requires known { ⌜ Known (now part) n ⌝ }
+    requires named { ⌜ Named (now part) n ⌝ }
     ensures { λ r. ⌜ Decls (now (part .entry)) n r ⌝ }
 {
     let mut table = [0usize; 64];
@@ -115,7 +115,7 @@ fn is_under(part: &[u8], d: usize, j: usize) -> bool
 }
 
 // Whether node i of a part of n nodes, which uses or assigns a variable, does so outside its decl.
-fn strays(file: &[u8], f: usize, part: &[u8], n: usize, decls: &[usize; 64], i: usize) -> bool
+pub fn strays(file: &[u8], f: usize, part: &[u8], n: usize, decls: &[usize; 64], i: usize) -> bool
     requires laid { ⌜ 12 * (1 + f) + 12 ≤ length (now file) ⌝ }
     requires inside { ⌜ (12 * n ≤ length (now part)) × (i < n) ⌝ }
     requires uses { ⌜ (usesVariable (kindAt (now part) i) ≡ true) × (bAt (now part) i < 64) ⌝ }

@@ -24,7 +24,7 @@ ghost use Rattle.scopes.specs.Counts.{Decls};
 ghost use Rattle.typing.specs.Types.{Typed};
 
 // The type of parameter k of function f.
-fn param_type(file: &[u8], f: usize, k: usize) -> u8
+pub fn param_type(file: &[u8], f: usize, k: usize) -> u8
     requires { ⌜ (12 * (1 + f) + 12 ≤ length (now file)) × (k < 8) ⌝ }
     ensures { λ r. ⌜ r ≡ paramType (now (file .entry)) f k ⌝ }
 {
@@ -32,7 +32,7 @@ fn param_type(file: &[u8], f: usize, k: usize) -> u8
 }
 
 // The type of variable x of function f.
-fn var_type(file: &[u8], f: usize, part: &[u8], n: usize, decls: &[usize; 64], x: u32) -> u8
+pub fn var_type(file: &[u8], f: usize, part: &[u8], n: usize, decls: &[usize; 64], x: u32) -> u8
     requires laid { ⌜ (12 * (1 + f) + 12 ≤ length (now file)) × (paramsOf (now file) f ≤ 8) ⌝ }
     requires inside { ⌜ (12 * n ≤ length (now part)) × (1 ≤ n) × (x < 64) ⌝ }
     requires told { ⌜ Decls (now part) n (now decls) ⌝ }
@@ -47,7 +47,7 @@ fn var_type(file: &[u8], f: usize, part: &[u8], n: usize, decls: &[usize; 64], x
 }
 
 // The type that an operator gives.
-fn operator_type(a: u8) -> u8
+pub fn operator_type(a: u8) -> u8
     ensures { λ r. ⌜ r ≡ operatorType a ⌝ }
 {
     if a < 10 { 1 } else { 2 }
@@ -118,7 +118,7 @@ fn want_of(
 }
 
 // Whether a type is the one wanted.
-fn is_suited(want: u8, found: u8) -> bool
+pub fn is_suited(want: u8, found: u8) -> bool
     ensures { λ r. ⌜ r ≡ suits want found ⌝ }
 {
     (want == 254) | (want == found)

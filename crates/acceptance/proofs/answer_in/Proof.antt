@@ -17,7 +17,7 @@ first-misplaced-requires : tie.Need-first-misplaced-requires
 first-misplaced-requires c κs = search needs
 
 first-undeclared-requires : tie.Need-first-undeclared-requires
-first-undeclared-requires c κs = ((head-inside _ _ (c .before .before .before .pre .0 .0) (c .before .before .before .pre .0 .1), c .before .before .before .pre .0 .0 .vars _ (c .before .before .before .pre .0 .1), c .before .before .before .pre .0 .0 .params _ (c .before .before .before .pre .0 .1)), (search needs, c .before .before .before .pre .1 .1 (omega arith) .0))
+first-undeclared-requires c κs = ((head-inside _ _ (c .before .before .before .pre .0 .0) (c .before .before .before .pre .0 .1), c .before .before .before .pre .0 .0 .vars _ (c .before .before .before .pre .0 .1), c .before .before .before .pre .0 .0 .params _ (c .before .before .before .pre .0 .1)), (search needs, c .before .before .before .pre .1 .1 (omega arith) .0 .variable))
 
 first-outside-requires : tie.Need-first-outside-requires
 first-outside-requires c κs = (head-inside _ _ (c .before .before .before .pre .0 .0) (c .before .before .before .pre .0 .1), (search needs, c .before .before .before .pre .1 .1 (omega arith) .0))

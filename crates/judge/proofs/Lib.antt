@@ -1,0 +1,4 @@
+pub mod Calls
+pub mod ByKind
+pub mod Filling
+pub mod Clearing
