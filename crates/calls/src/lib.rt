@@ -2,7 +2,7 @@
 use acceptance::Answer;
 ghost use mathlib.Core.Path.{_≡_};
 ghost use Prim.Native.Nat.{ℕ};
-ghost use Rattle.acceptance.specs.Answers.{says};
+ghost use Rattle.acceptance.specs.Answers.{says, Small};
 ghost use Rattle.image.specs.Image.{image};
 ghost use Rattle.image.specs.Memory.{size};
 ghost use Rattle.semantics.specs.Machine.{main, calm};
@@ -24,6 +24,7 @@ fn write_start(m: &mut [u32], n: usize)
 pub fn start(file: &[u8], m: &mut [u32]) -> Answer
     ensures answer { λ r. ⌜ says r ≡ startAnswer (now (file .entry)) (now (m .entry)) ⌝ }
     ensures memory { λ r. ⌜ now (m .exit) ≡ startMemory (now (file .entry)) (now (m .entry)) ⌝ }
+    ensures small { λ r. ⌜ Small r ⌝ }
 {
     if let Answer::Refused {
         question,

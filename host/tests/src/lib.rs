@@ -5,6 +5,8 @@ pub mod case;
 pub mod proved;
 pub mod random;
 pub mod report;
+#[cfg(feature = "proved")]
+pub mod starts;
 pub mod worked;
 
 /// What a check answers: none if the file is accepted.

@@ -110,6 +110,8 @@ fn run() -> Total {
     }
     run_table(&sides, &mut total);
     run_random(&sides[1..], &mut total);
+    #[cfg(feature = "proved")]
+    total.add("start, answer and memory", "proved", &tests::starts::outcome());
     total
 }
 
