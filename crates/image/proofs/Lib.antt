@@ -2,6 +2,8 @@ pub mod Narrow
 pub mod Parts
 pub mod Blocks
 pub mod Images
+pub mod Rooms
+pub mod Frames
 pub mod Sized
 pub mod Memory
 pub mod Samples
