@@ -140,7 +140,43 @@ module _ (f : ℕ) (η : List Value) (K : List Frame) (A : List Saved) (R : List
       rw (place, core-rooms f η K A, core-rooms f η (fr ∷ K) A)
       (frame-pop (replicate 128 0) R (activation f 0 η ∷ savedActivations A) (K ++ savedFrames A) (length-replicate {A = ℕ} 128 0) held n count fr room)
 
-  module _ (room : n < 512) where
-    unfolding frameWords block gathering nodesWords
-    pub push-and : (l : ℕ) → puts (core f η K A ++ R) at 0 (3 ∷ l ∷ 0 ∷ 0 ∷ []) ≡ core f η (and l ∷ K) A ++ R
-    push-and l = push-frame (and l) (3 ∷ l ∷ 0 ∷ 0 ∷ []) room (omega arith) refl
+  -- a frame without operands
+  pub push-plain : (fr : Frame) → n < 512 → valuesIn fr ≡ [] → nodesIn fr ≡ []
+      → puts (core f η K A ++ R) at 0 (kindOf fr ∷ firstOf fr ∷ secondOf fr ∷ 0 ∷ []) ≡ core f η (fr ∷ K) A ++ R
+  unfolding valuesWords nodesWords
+  push-plain fr room v s =
+      push-frame fr (kindOf fr ∷ firstOf fr ∷ secondOf fr ∷ 0 ∷ []) room (omega arith)
+      (frame-words fr ∙ rw (v, s))
+
+  -- a frame that gathers, with the nodes that wait
+  pub push-gather : (h : Head) (ns : List ℕ) → n < 512 → length ns ≤ 7
+      → puts (core f η K A ++ R) at 0 (headKind h ∷ headWord h ∷ 0 ∷ length ns ∷ nodesWords ns) ≡ core f η (gather h [] ns ∷ K) A ++ R
+  unfolding valuesWords
+  push-gather h ns room short =
+      push-frame (gather h [] ns) (headKind h ∷ headWord h ∷ 0 ∷ length ns ∷ nodesWords ns) room (omega (arith, length-nodes ns)) (frame-words (gather h [] ns))
+
+  -- ---- read
+
+  module _ (fr : Frame) where
+    -- one word of the top frame
+    pub top-word : (b j : ℕ) → b ≡ at + j → j < 20 → getD (core f η (fr ∷ K) A ++ R) b 0 ≡ getD (frameWords fr) j 0
+    top-word b j e h =
+        rw (e, place, core-rooms f η (fr ∷ K) A)
+        (frame-word (replicate 128 0) R (activation f 0 η ∷ savedActivations A) (K ++ savedFrames A) (length-replicate {A = ℕ} 128 0) held n count fr j h)
+
+    -- its kind and its three words
+    pub top-kind : getD (core f η (fr ∷ K) A ++ R) at 0 ≡ kindOf fr
+    unfolding filled
+    top-kind = top-word at 0 (omega arith) (omega arith) ∙ rw (frame-words fr)
+
+    pub top-first : getD (core f η (fr ∷ K) A ++ R) (at + 1) 0 ≡ firstOf fr
+    unfolding filled
+    top-first = top-word (at + 1) 1 refl (omega arith) ∙ rw (frame-words fr)
+
+    pub top-second : getD (core f η (fr ∷ K) A ++ R) (at + 2) 0 ≡ secondOf fr
+    unfolding filled
+    top-second = top-word (at + 2) 2 refl (omega arith) ∙ rw (frame-words fr)
+
+    pub top-third : getD (core f η (fr ∷ K) A ++ R) (at + 3) 0 ≡ length (nodesIn fr)
+    unfolding filled
+    top-third = top-word (at + 3) 3 refl (omega arith) ∙ rw (frame-words fr)

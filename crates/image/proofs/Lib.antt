@@ -2,6 +2,7 @@ pub mod Narrow
 pub mod Parts
 pub mod Blocks
 pub mod Images
+pub mod Slots
 pub mod Rooms
 pub mod Frames
 pub mod Sized
