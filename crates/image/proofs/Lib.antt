@@ -5,6 +5,7 @@ pub mod Images
 pub mod Slots
 pub mod Rooms
 pub mod Frames
+pub mod Variables
 pub mod Sized
 pub mod Memory
 pub mod Samples
