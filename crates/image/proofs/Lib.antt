@@ -6,6 +6,7 @@ pub mod Slots
 pub mod Rooms
 pub mod Frames
 pub mod Variables
+pub mod Heads
 pub mod Sized
 pub mod Memory
 pub mod Samples

@@ -171,7 +171,8 @@ module _ (H R : List ℕ) (X : List Activation) (F : List Frame) where
   abbrev high : List ℕ
   high = replicate ((32 - suc (length X)) * 136) 0 ++ (region 20 frameWords 512 F ++ (replicate 1664 0 ++ R))
 
-  activations-open : rooms H X F ++ R ≡ H ++ (region 136 activationWords 32 X ++ (region 20 frameWords 512 F ++ (replicate 1664 0 ++ R)))
+  -- the head, the activations, the frames, and what is left
+  pub activations-open : rooms H X F ++ R ≡ H ++ (region 136 activationWords 32 X ++ (region 20 frameWords 512 F ++ (replicate 1664 0 ++ R)))
   unfolding rooms
   activations-open = simp append-assoc
 

@@ -1,0 +1,125 @@
+-- The head and the frame count stored and taken out: between the image of a state and its words while it runs.
+use mathlib.Core.Path.{_≡_, refl, sym, ap, _∙_}
+use mathlib.Core.List.{List, [], _∷_, _++_, append-assoc}
+use Prim.Native.Nat.{ℕ, suc, _+_, _*_, _-_, _≤_, _<_}
+use native.Mathlib.Omega.{arith}
+use lib.ListN.{length, getD, set, take, drop, replicate, length-append, length-replicate, replicate-append-replicate}
+use Rattle.words.specs.Blocks.{puts}
+use Rattle.words.specs.Stacks.{region, Wide}
+use Rattle.words.proofs.Blocks.{puts-block, puts-inside}
+use Rattle.words.proofs.Stacks.{every, length-region}
+use Rattle.semantics.specs.Values.{Value, nothing, int, truth}
+use Rattle.semantics.specs.Machine.{Exception, abort, Frame, Control, val, eval, exec, Saved, Ambient, State, exception, main, returned, running}
+use Rattle.image.specs.Layout.{filled, frameWords, controlWords, Activation, activation, activationWords}
+use Rattle.image.specs.Image.{savedActivations, savedFrames, headWords, activationsOf, framesOf, image}
+use Rattle.image.specs.Core.{core}
+use Rattle.image.proofs.Blocks.{length-filled, frame-wide, activation-wide}
+use Rattle.image.proofs.Images.{length-saved, head-word}
+use Rattle.image.proofs.Rooms.{rooms, filled-is, activations-open, activation-word}
+use Rattle.image.proofs.Frames.{core-rooms}
+use Rattle.image.proofs.Variables.{rooms-count}
+
+-- ---- heads
+
+-- words stored over words that are not more, in a block
+filled-over : (w : ℕ) (us vs : List ℕ) → length us ≤ length vs → length vs ≤ w → puts (filled w us) 0 0 vs ≡ filled w vs
+filled-over w us vs h k =
+    let d : List ℕ = replicate (length vs - length us) 0 in
+    let n : w - length us ≡ (length vs - length us) + (w - length vs) = omega arith in
+    let e : filled w us ≡ (us ++ d) ++ replicate (w - length vs) 0
+    = filled-is w us (omega arith) ∙ rw (n, ← replicate-append-replicate {A = ℕ} (length vs - length us) (w - length vs) 0) (simp append-assoc) in
+    let m : length (us ++ d) ≡ length vs = omega (arith, h, length-append us d, length-replicate {A = ℕ} (length vs - length us) 0) in
+    ap (λ (l : List ℕ). puts l 0 0 vs) e ∙ puts-block vs (us ++ d) [] (replicate (w - length vs) 0) 0 0 refl m ∙ sym (filled-is w vs k)
+
+zeros-filled : replicate {A = ℕ} 128 0 ≡ filled 128 []
+unfolding filled
+zeros-filled = refl
+
+five-zeros : replicate {A = ℕ} 128 0 ≡ filled 128 (0 ∷ 0 ∷ 0 ∷ 0 ∷ 0 ∷ [])
+unfolding filled
+five-zeros = refl
+
+module _ (R : List ℕ) (X : List Activation) (F : List Frame) where
+  -- a head is stored over one that is not longer
+  pub rooms-head : (us vs : List ℕ) → length us ≤ length vs → length vs ≤ 128
+      → puts (rooms (filled 128 us) X F ++ R) 0 0 vs ≡ rooms (filled 128 vs) X F ++ R
+  rooms-head us vs h k =
+      let r : List ℕ = region 136 activationWords 32 X ++ (region 20 frameWords 512 F ++ (replicate 1664 0 ++ R)) in
+      let n : 0 + (0 + length vs) ≤ length (filled 128 us) = omega (arith, k, length-filled 128 us) in
+      rw (activations-open (filled 128 us) R X F, activations-open (filled 128 vs) R X F, ← filled-over 128 us vs h k)
+      (puts-inside vs (filled 128 us) [] r 0 0 0 refl n)
+
+pub image-rooms : (s : State) → image s ≡ rooms (filled 128 (headWords s)) (activationsOf s) (framesOf s)
+unfolding image rooms
+image-rooms s = refl
+
+-- ---- a running state
+
+length-control : (c : Control) → length (controlWords c) ≡ 2
+unfolding controlWords
+length-control (val nothing) = refl
+length-control (val (int n)) = refl
+length-control (val (truth b)) = refl
+length-control (eval n) = refl
+length-control (exec r) = refl
+
+module _ (c : Control) (α : Ambient) (f : ℕ) (η : List Value) (K : List Frame) (A : List Saved) (R : List ℕ) (a b : ℕ)
+    (count : a ≡ length A) (place : b ≡ 128 + a * 136 + 1) where
+  known : a ≡ length (savedActivations A)
+  known = count ∙ sym (length-saved A)
+
+  five : length (headWords (running c α f η K A)) ≤ 5
+  unfolding headWords
+  five = omega (arith, length-control c)
+
+  running-rooms : image (running c α f η K A)
+      ≡ rooms (filled 128 (headWords (running c α f η K A))) (activation f (length K) η ∷ savedActivations A) (K ++ savedFrames A)
+  unfolding activationsOf framesOf
+  running-rooms = image-rooms (running c α f η K A)
+
+  -- the five words of the head and the frame count are stored
+  pub store-head : (n k x y : ℕ) → n ≡ a + 1 → k ≡ length K → controlWords c ≡ x ∷ y ∷ []
+      → set (puts (core f η K A ++ R) 0 0 (2 ∷ 0 ∷ n ∷ x ∷ y ∷ [])) b k ≡ image (running c α f η K A) ++ R
+  unfolding headWords
+  store-head n k x y hn hk e =
+      let z : replicate {A = ℕ} 128 0 ≡ filled 128 [] = zeros-filled in
+      let h : n ≡ suc (length A) = omega arith in
+      let w : headWords (running c α f η K A) ≡ 2 ∷ 0 ∷ n ∷ x ∷ y ∷ [] = rw (e, h) in
+      rw (place, hk, running-rooms, w, core-rooms f η K A, z,
+        rooms-head R (activation f 0 η ∷ savedActivations A) (K ++ savedFrames A) [] (2 ∷ 0 ∷ n ∷ x ∷ y ∷ []) (omega arith) (omega arith))
+      (rooms-count (filled 128 (2 ∷ 0 ∷ n ∷ x ∷ y ∷ [])) R (savedActivations A) (K ++ savedFrames A)
+      (length-filled 128 (2 ∷ 0 ∷ n ∷ x ∷ y ∷ [])) a known f 0 η (length K))
+
+  -- they are taken out
+  pub clear-head : set (puts (image (running c α f η K A) ++ R) 0 0 (0 ∷ 0 ∷ 0 ∷ 0 ∷ 0 ∷ [])) b 0 ≡ core f η K A ++ R
+  clear-head =
+      let z : replicate {A = ℕ} 128 0 ≡ filled 128 (0 ∷ 0 ∷ 0 ∷ 0 ∷ 0 ∷ []) = five-zeros in
+      rw (place, running-rooms, core-rooms f η K A, z,
+        rooms-head R (activation f (length K) η ∷ savedActivations A) (K ++ savedFrames A) (headWords (running c α f η K A)) (0 ∷ 0 ∷ 0 ∷ 0 ∷ 0 ∷ [])
+        five (omega arith))
+      (rooms-count (filled 128 (0 ∷ 0 ∷ 0 ∷ 0 ∷ 0 ∷ [])) R (savedActivations A) (K ++ savedFrames A)
+      (length-filled 128 (0 ∷ 0 ∷ 0 ∷ 0 ∷ 0 ∷ [])) a known f (length K) η 0)
+
+  -- they are read
+  pub head-tag : getD (image (running c α f η K A) ++ R) 0 0 ≡ 2
+  unfolding headWords
+  head-tag = head-word (running c α f η K A) R 0 (omega arith)
+
+  pub head-count : getD (image (running c α f η K A) ++ R) 2 0 ≡ suc (length A)
+  unfolding headWords
+  head-count = head-word (running c α f η K A) R 2 (omega arith)
+
+  pub head-form : getD (image (running c α f η K A) ++ R) 3 0 ≡ getD (controlWords c) 0 0
+  unfolding headWords
+  head-form = head-word (running c α f η K A) R 3 (omega arith)
+
+  pub head-control : getD (image (running c α f η K A) ++ R) 4 0 ≡ getD (controlWords c) 1 0
+  unfolding headWords
+  head-control = head-word (running c α f η K A) R 4 (omega arith)
+
+  pub frame-count : getD (image (running c α f η K A) ++ R) b 0 ≡ length K
+  unfolding activationWords filled
+  frame-count =
+      rw (place, running-rooms)
+      (activation-word (filled 128 (headWords (running c α f η K A))) R (savedActivations A) (K ++ savedFrames A)
+      (length-filled 128 (headWords (running c α f η K A))) a known (activation f (length K) η) 1 (omega arith))
