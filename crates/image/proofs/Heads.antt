@@ -35,6 +35,10 @@ zeros-filled : replicate {A = ℕ} 128 0 ≡ filled 128 []
 unfolding filled
 zeros-filled = refl
 
+two-zeros : replicate {A = ℕ} 128 0 ≡ filled 128 (0 ∷ 0 ∷ [])
+unfolding filled
+two-zeros = refl
+
 five-zeros : replicate {A = ℕ} 128 0 ≡ filled 128 (0 ∷ 0 ∷ 0 ∷ 0 ∷ 0 ∷ [])
 unfolding filled
 five-zeros = refl
@@ -123,3 +127,63 @@ module _ (c : Control) (α : Ambient) (f : ℕ) (η : List Value) (K : List Fram
       rw (place, running-rooms)
       (activation-word (filled 128 (headWords (running c α f η K A))) R (savedActivations A) (K ++ savedFrames A)
       (length-filled 128 (headWords (running c α f η K A))) a known (activation f (length K) η) 1 (omega arith))
+
+-- ---- a state with no activation
+
+-- its head, by cases
+abbrev pub Resting : State → Type 0
+Resting (State.value c) = Unit {0}
+Resting (exception x) = Unit {0}
+Resting (main α) = Unit {0}
+Resting (returned α c) = Unit {0}
+Resting (running c α f η K A) = ⊥
+
+abbrev pub exceptionTag : Exception → ℕ
+exceptionTag Exception.arith = 5
+exceptionTag abort = 6
+
+abbrev pub restWords : State → List ℕ
+restWords (State.value c) = 4 ∷ c ∷ []
+restWords (exception x) = exceptionTag x ∷ []
+restWords (main α) = 1 ∷ []
+restWords (returned α c) = 3 ∷ c ∷ []
+restWords (running c α f η K A) = []
+
+pub rest-rooms : (s : State) → Resting s → image s ≡ rooms (filled 128 (restWords s)) [] []
+unfolding headWords activationsOf framesOf
+rest-rooms (State.value c) r = image-rooms (State.value c)
+rest-rooms (exception Exception.arith) r = image-rooms (exception Exception.arith)
+rest-rooms (exception abort) r = image-rooms (exception abort)
+rest-rooms (main α) r = image-rooms (main α)
+rest-rooms (returned α c) r = image-rooms (returned α c)
+rest-rooms (running c α f η K A) r = absurd r
+
+rest-short : (s : State) → length (restWords s) ≤ 2
+rest-short (State.value c) = omega arith
+rest-short (exception x) = omega arith
+rest-short (main α) = omega arith
+rest-short (returned α c) = omega arith
+rest-short (running c α f η K A) = omega arith
+
+-- rooms of nothing are zeros
+zeros-append : (a b c d z : ℕ) → z ≡ a + (b + (c + d))
+    → replicate {A = ℕ} a 0 ++ (replicate b 0 ++ (replicate c 0 ++ replicate d 0)) ≡ replicate z 0
+zeros-append a b c d z e =
+    rw (replicate-append-replicate {A = ℕ} c d 0, replicate-append-replicate {A = ℕ} b (c + d) 0, replicate-append-replicate {A = ℕ} a (b + (c + d)) 0, e)
+
+pub empty-rooms : (z : ℕ) → z ≡ 16384 → rooms (replicate 128 0) [] [] ≡ replicate z 0
+unfolding rooms
+empty-rooms z e = zeros-append 128 4352 10240 1664 z e
+
+module _ (s : State) (R : List ℕ) (rest : Resting s) (z : ℕ) (all : z ≡ 16384) where
+  -- its head is stored in zeros
+  pub store-rest : puts (replicate z 0 ++ R) 0 0 (restWords s) ≡ image s ++ R
+  store-rest =
+      rw (← empty-rooms z all, rest-rooms s rest, zeros-filled)
+      (rooms-head R [] [] [] (restWords s) (omega arith) (omega (arith, rest-short s)))
+
+  -- it is taken out
+  pub clear-rest : puts (image s ++ R) 0 0 (0 ∷ 0 ∷ []) ≡ replicate z 0 ++ R
+  clear-rest =
+      rw (← empty-rooms z all, rest-rooms s rest, two-zeros)
+      (rooms-head R [] [] (restWords s) (0 ∷ 0 ∷ []) (rest-short s) (omega arith))
