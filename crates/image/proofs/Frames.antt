@@ -180,3 +180,11 @@ module _ (f : ℕ) (η : List Value) (K : List Frame) (A : List Saved) (R : List
     pub top-third : getD (core f η (fr ∷ K) A ++ R) (at + 3) 0 ≡ length (nodesIn fr)
     unfolding filled
     top-third = top-word (at + 3) 3 refl (omega arith) ∙ rw (frame-words fr)
+
+    -- words of the top frame change, in two places
+    pub change-frame : (gr : Frame) (b c i j : ℕ) (us vs : List ℕ) → b ≡ at + i → c ≡ at + j → i + length us ≤ 20 → j + length vs ≤ 20
+        → puts (puts (frameWords fr) i 0 us) j 0 vs ≡ frameWords gr
+        → puts (puts (core f η (fr ∷ K) A ++ R) b 0 us) c 0 vs ≡ core f η (gr ∷ K) A ++ R
+    change-frame gr b c i j us vs hb hc hi hj e =
+        rw (hb, hc, place, core-rooms f η (fr ∷ K) A, core-rooms f η (gr ∷ K) A)
+        (frame-change (replicate 128 0) R (activation f 0 η ∷ savedActivations A) (K ++ savedFrames A) (length-replicate {A = ℕ} 128 0) held n count fr gr i j us vs hi hj e)

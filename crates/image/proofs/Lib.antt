@@ -5,8 +5,10 @@ pub mod Images
 pub mod Slots
 pub mod Rooms
 pub mod Frames
+pub mod Operands
 pub mod Variables
 pub mod Heads
+pub mod Calls
 pub mod Sized
 pub mod Memory
 pub mod Samples
