@@ -9,7 +9,7 @@ use lib.Seq.{drop-append-add, drop-append-le, take-append-le}
 use Rattle.words.specs.Blocks.{puts}
 use Rattle.words.specs.Stacks.{words, region, Wide}
 use Rattle.words.proofs.Blocks.{puts-block, puts-inside, length-puts, getD-block}
-use Rattle.words.proofs.Stacks.{every, length-words, length-region, pops-law}
+use Rattle.words.proofs.Stacks.{every, length-words, length-region, pops-law, word-law}
 use Rattle.semantics.specs.Machine.{Frame}
 use Rattle.image.specs.Layout.{filled, frameWords, Activation, activationWords}
 use Rattle.image.proofs.Parts.{take-over}
@@ -216,3 +216,10 @@ module _ (H R : List ℕ) (X : List Activation) (F : List Frame) (head : length 
     activation-change y j vs h e =
         rw (activation-held H R X F x, activation-held H R X F y, ← e)
         (inside (low H R X F) (activationWords x) (high H R X F) (128 + a * 136) length-low j vs (rw (activation-wide x) h))
+
+    -- one word of the activation under the top
+    pub caller-word : (y : Activation) (j : ℕ) → j < 136 → getD (rooms H (y ∷ x ∷ X) F ++ R) (128 + a * 136 + j) 0 ≡ getD (activationWords x) j 0
+    caller-word y j h =
+        rw (activations-open H R (y ∷ x ∷ X) F)
+        (word-law 136 activationWords H (region 20 frameWords 512 F ++ (replicate 1664 0 ++ R)) 32 (128 + a * 136) (y ∷ x ∷ X) 1 x
+        (every (Wide 136 activationWords) activation-wide (y ∷ x ∷ X)) (omega arith) (rw (head, count)) (128 + a * 136 + j) j refl h)
