@@ -1,13 +1,12 @@
 -- Functions entered and left while a state runs.
 use mathlib.Core.Path.{_≡_, refl, sym, ap, _∙_}
-use mathlib.Core.List.{List, [], _∷_, _++_, append-assoc, append-nil}
+use mathlib.Core.List.{List, [], _∷_, _++_, append-assoc}
 use Prim.Native.Nat.{ℕ, suc, _+_, _*_, _-_, _≤_, _<_}
-use native.Mathlib.Nat.{add-zero}
 use native.Mathlib.Omega.{arith}
 use lib.ListN.{length, getD, set, take, drop, replicate, length-append, length-replicate, replicate-append-replicate}
 use Rattle.words.specs.Blocks.{puts}
 use Rattle.semantics.specs.Values.{Value, nothing, Ty}
-use Rattle.semantics.specs.Program.{Head, op, fn}
+use Rattle.semantics.specs.Program.{Head}
 use Rattle.semantics.specs.Machine.{Frame, gather, Saved, saved, blank}
 use Rattle.image.specs.Layout.{filled, valueWords, valuesWords, Activation, activation, activationWords}
 use Rattle.image.specs.Image.{savedActivations, savedFrames}
@@ -103,8 +102,13 @@ module _ (f : ℕ) (η : List Value) (K : List Frame) (A : List Saved) (R : List
           ≡ core g (us ++ replicate l nothing) [] (saved f η K ∷ A) ++ R
       unfolding savedActivations savedFrames
       enter fr us l e =
-          rw (pop-frame f η K A R n at (omega arith) under top fr fewer, enter-none, new, core-rooms g (replicate c nothing) [] (saved f η K ∷ A),
-            core-rooms g (us ++ replicate l nothing) [] (saved f η K ∷ A))
+          rw (
+            pop-frame f η K A R n at (omega arith) under top fr fewer,
+            enter-none,
+            new,
+            core-rooms g (replicate c nothing) [] (saved f η K ∷ A),
+            core-rooms g (us ++ replicate l nothing) [] (saved f η K ∷ A),
+          )
           (rooms-arguments (replicate 128 0) R (activation f (length K) η ∷ savedActivations A) (K ++ savedFrames A) (length-replicate {A = ℕ} 128 0) (a + 1)
           (omega (arith, count, length-saved A)) g us c l e short)
 
@@ -115,8 +119,11 @@ module _ (f : ℕ) (η : List Value) (K : List Frame) (A : List Saved) (R : List
           ≡ core g ((vs ++ (v ∷ [])) ++ replicate l nothing) [] (saved f η K ∷ A) ++ R
       unfolding savedActivations savedFrames
       enter-copy h vs v l w s hc hv hw hs =
-          rw (core-rooms f η (gather h vs [] ∷ K) A, entering (gather h vs [] ∷ (K ++ savedFrames A)),
-            core-rooms g ((vs ++ (v ∷ [])) ++ replicate l nothing) [] (saved f η K ∷ A))
+          rw (
+            core-rooms f η (gather h vs [] ∷ K) A,
+            entering (gather h vs [] ∷ (K ++ savedFrames A)),
+            core-rooms g ((vs ++ (v ∷ [])) ++ replicate l nothing) [] (saved f η K ∷ A),
+          )
           (rooms-copied (replicate 128 0) R (activation f (length K) η ∷ savedActivations A) (K ++ savedFrames A) (length-replicate {A = ℕ} 128 0) (a + 1)
           (omega (arith, count, length-saved A)) g h vs v c l w here s n at room short hc hv hw new hs under top fewer)
 
@@ -152,9 +159,16 @@ module _ (f : ℕ) (η : List Value) (J : List Frame) (R : List ℕ) where
         let X : List Activation = savedActivations A in
         let i : suc (suc (length X)) ≤ 32 = omega (arith, room, count, length-saved A) in
         let c : a + 1 ≡ suc (length X) = omega (arith, count, length-saved A) in
-        rw (sized, old, new, top, core-rooms f η J (saved g θ L ∷ A), core-rooms g θ L A,
+        rw (
+          sized,
+          old,
+          new,
+          top,
+          core-rooms f η J (saved g θ L ∷ A),
+          core-rooms g θ L A,
           frames-pop Z R (activation f 0 η ∷ activation g (length L) θ ∷ X) (L ++ savedFrames A) z i n under J fewer,
-          activation-pop Z R (activation g (length L) θ ∷ X) (L ++ savedFrames A) z (a + 1) c (activation f 0 η) room)
+          activation-pop Z R (activation g (length L) θ ∷ X) (L ++ savedFrames A) z (a + 1) c (activation f 0 η) room,
+        )
         (rooms-count Z R X (L ++ savedFrames A) z a (count ∙ sym (length-saved A)) g (length L) θ 0)
 
   -- the function that was called first is left: all words are zeros
@@ -164,6 +178,12 @@ module _ (f : ℕ) (η : List Value) (J : List Frame) (R : List ℕ) where
   leave-main size all at here sized every top new fewer =
       let Z : List ℕ = replicate 128 0 in
       let z : length Z ≡ 128 = length-replicate {A = ℕ} 128 0 in
-      rw (sized, top, new, ← empty-rooms all every, core-rooms f η J [],
-        frames-pop Z R (activation f 0 η ∷ []) [] z (omega arith) 0 refl J (omega arith))
+      rw (
+        sized,
+        top,
+        new,
+        ← empty-rooms all every,
+        core-rooms f η J [],
+        frames-pop Z R (activation f 0 η ∷ []) [] z (omega arith) 0 refl J (omega arith),
+      )
       (activation-pop Z R [] [] z 0 refl (activation f 0 η) (omega arith))

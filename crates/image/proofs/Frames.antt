@@ -1,22 +1,20 @@
 -- The top frame of a state while it runs: laid, taken off, read, and its operands.
-use mathlib.Core.Path.{_≡_, refl, sym, ap, _∙_}
-use mathlib.Core.List.{List, [], _∷_, _++_, append-assoc}
-use Prim.Native.Nat.{ℕ, zero, suc, _+_, _*_, _-_, _≤_, _<_}
-use native.Mathlib.Nat.{add-zero}
+use mathlib.Core.Path.{_≡_, refl, ap, _∙_}
+use mathlib.Core.List.{List, [], _∷_, _++_}
+use Prim.Native.Nat.{ℕ, _+_, _*_, _≤_, _<_}
 use native.Mathlib.Omega.{arith}
-use lib.ListN.{length, getD, set, take, drop, replicate, length-append, length-replicate}
+use lib.ListN.{length, getD, replicate, length-replicate}
 use Rattle.words.specs.Blocks.{puts}
-use Rattle.words.proofs.Blocks.{puts-block}
-use Rattle.semantics.specs.Values.{Value, nothing, int, truth}
-use Rattle.semantics.specs.Program.{Head, op, fn, Ref}
+use Rattle.semantics.specs.Values.{Value}
+use Rattle.semantics.specs.Program.{Head, op, fn}
 use Rattle.semantics.specs.Machine.{Frame, gather, and, wait, branch, check, Saved}
-use Rattle.image.specs.Layout.{filled, valueWords, valuesWords, nodesWords, refWord, block, gathering, frameWords, Activation, activation}
+use Rattle.image.specs.Layout.{filled, valuesWords, nodesWords, refWord, block, gathering, frameWords, activation}
 use Rattle.image.specs.Image.{savedActivations, savedFrames}
 use Rattle.image.specs.Decode.{refOf}
 use Rattle.image.specs.Core.{core}
-use Rattle.image.proofs.Parts.{ref-back, length-values, length-nodes}
+use Rattle.image.proofs.Parts.{ref-back, length-nodes}
 use Rattle.image.proofs.Images.{length-saved}
-use Rattle.image.proofs.Rooms.{rooms, frame-push, frame-pop, frame-word, frame-part, frame-change, filled-is}
+use Rattle.image.proofs.Rooms.{rooms, frame-push, frame-pop, frame-word, frame-change}
 
 -- ---- what the words of a frame are
 

@@ -3,19 +3,18 @@ use mathlib.Core.Path.{_≡_, refl, sym, ap, _∙_}
 use mathlib.Core.List.{List, [], _∷_, _++_, append-assoc}
 use Prim.Native.Nat.{ℕ, suc, _+_, _*_, _-_, _≤_, _<_}
 use native.Mathlib.Omega.{arith}
-use lib.ListN.{length, getD, set, take, drop, replicate, length-append, length-replicate, replicate-append-replicate}
+use lib.ListN.{length, getD, set, replicate, length-append, length-replicate, replicate-append-replicate}
 use Rattle.words.specs.Blocks.{puts}
-use Rattle.words.specs.Stacks.{region, Wide}
+use Rattle.words.specs.Stacks.{region}
 use Rattle.words.proofs.Blocks.{puts-block, puts-inside}
-use Rattle.words.proofs.Stacks.{every, length-region}
 use Rattle.semantics.specs.Values.{Value, nothing, int, truth}
 use Rattle.semantics.specs.Machine.{Exception, abort, Frame, Control, val, eval, exec, Saved, Ambient, State, exception, main, returned, running}
 use Rattle.image.specs.Layout.{filled, frameWords, controlWords, Activation, activation, activationWords}
 use Rattle.image.specs.Image.{savedActivations, savedFrames, headWords, activationsOf, framesOf, image}
 use Rattle.image.specs.Core.{core}
-use Rattle.image.proofs.Blocks.{length-filled, frame-wide, activation-wide}
+use Rattle.image.proofs.Blocks.{length-filled}
 use Rattle.image.proofs.Images.{length-saved, head-word}
-use Rattle.image.proofs.Rooms.{rooms, filled-is, activations-open, activation-word}
+use Rattle.image.proofs.Rooms.{rooms, filled-is, length-rooms, activations-open, activation-word}
 use Rattle.image.proofs.Frames.{core-rooms}
 use Rattle.image.proofs.Variables.{rooms-count}
 
@@ -89,8 +88,15 @@ module _ (c : Control) (α : Ambient) (f : ℕ) (η : List Value) (K : List Fram
       let z : replicate {A = ℕ} 128 0 ≡ filled 128 [] = zeros-filled in
       let h : n ≡ suc (length A) = omega arith in
       let w : headWords (running c α f η K A) ≡ 2 ∷ 0 ∷ n ∷ x ∷ y ∷ [] = rw (e, h) in
-      rw (place, hk, running-rooms, w, core-rooms f η K A, z,
-        rooms-head R (activation f 0 η ∷ savedActivations A) (K ++ savedFrames A) [] (2 ∷ 0 ∷ n ∷ x ∷ y ∷ []) (omega arith) (omega arith))
+      rw (
+        place,
+        hk,
+        running-rooms,
+        w,
+        core-rooms f η K A,
+        z,
+        rooms-head R (activation f 0 η ∷ savedActivations A) (K ++ savedFrames A) [] (2 ∷ 0 ∷ n ∷ x ∷ y ∷ []) (omega arith) (omega arith),
+      )
       (rooms-count (filled 128 (2 ∷ 0 ∷ n ∷ x ∷ y ∷ [])) R (savedActivations A) (K ++ savedFrames A)
       (length-filled 128 (2 ∷ 0 ∷ n ∷ x ∷ y ∷ [])) a known f 0 η (length K))
 
@@ -98,9 +104,14 @@ module _ (c : Control) (α : Ambient) (f : ℕ) (η : List Value) (K : List Fram
   pub clear-head : set (puts (image (running c α f η K A) ++ R) 0 0 (0 ∷ 0 ∷ 0 ∷ 0 ∷ 0 ∷ [])) b 0 ≡ core f η K A ++ R
   clear-head =
       let z : replicate {A = ℕ} 128 0 ≡ filled 128 (0 ∷ 0 ∷ 0 ∷ 0 ∷ 0 ∷ []) = five-zeros in
-      rw (place, running-rooms, core-rooms f η K A, z,
+      rw (
+        place,
+        running-rooms,
+        core-rooms f η K A,
+        z,
         rooms-head R (activation f (length K) η ∷ savedActivations A) (K ++ savedFrames A) (headWords (running c α f η K A)) (0 ∷ 0 ∷ 0 ∷ 0 ∷ 0 ∷ [])
-        five (omega arith))
+            five (omega arith),
+      )
       (rooms-count (filled 128 (0 ∷ 0 ∷ 0 ∷ 0 ∷ 0 ∷ [])) R (savedActivations A) (K ++ savedFrames A)
       (length-filled 128 (0 ∷ 0 ∷ 0 ∷ 0 ∷ 0 ∷ [])) a known f (length K) η 0)
 
@@ -187,3 +198,20 @@ module _ (s : State) (R : List ℕ) (rest : Resting s) (z : ℕ) (all : z ≡ 16
   clear-rest =
       rw (← empty-rooms z all, rest-rooms s rest, two-zeros)
       (rooms-head R [] [] (restWords s) (0 ∷ 0 ∷ []) (rest-short s) (omega arith))
+
+-- ---- a running state that ends
+
+module _ (f : ℕ) (η : List Value) (K : List Frame) (A : List Saved) (few : length A < 32) (fewer : length (K ++ savedFrames A) ≤ 512) where
+  pub core-length : length (core f η K A) ≡ 16384
+  core-length =
+      rw (core-rooms f η K A)
+      (length-rooms (replicate 128 0) [] (activation f 0 η ∷ savedActivations A) (K ++ savedFrames A) (length-replicate {A = ℕ} 128 0) (omega (arith, few, length-saved A)) fewer)
+
+  -- all its words are taken out
+  pub clear-core : (R : List ℕ) (z : ℕ) → z ≡ 16384 → puts (core f η K A ++ R) 0 0 (replicate z 0) ≡ replicate z 0 ++ R
+  clear-core R z all = puts-block (replicate z 0) (core f η K A) [] R 0 0 refl (core-length ∙ sym all ∙ sym (length-replicate z 0))
+
+  -- and the head of its end is stored
+  pub store-end : (s : State) (R : List ℕ) → Resting s → (z : ℕ) → z ≡ 16384
+      → puts (puts (core f η K A ++ R) 0 0 (replicate z 0)) 0 0 (restWords s) ≡ image s ++ R
+  store-end s R rest z all = rw (clear-core R z all) (store-rest s R rest z all)

@@ -4,21 +4,21 @@ use mathlib.Core.List.{List, [], _∷_, _++_, append-assoc}
 use Prim.Native.Nat.{ℕ, suc, _+_, _*_, _-_, _≤_, _<_}
 use native.Mathlib.Nat.{add-zero}
 use native.Mathlib.Omega.{arith}
-use lib.ListN.{length, getD, set, take, drop, replicate, length-append, length-replicate, List·getD-append}
-use lib.Seq.{take-at, getD-append-add, set-append-left}
+use lib.ListN.{length, getD, set, take, drop, replicate, length-append, length-replicate, length-set, replicate-append-replicate}
+use lib.Seq.{take-at}
 use Rattle.words.specs.Blocks.{puts}
 use Rattle.words.proofs.Blocks.{puts-block, getD-block, set-block}
 use Rattle.semantics.specs.Values.{Value, nothing}
 use Rattle.semantics.specs.Program.{Head}
 use Rattle.semantics.specs.Machine.{Frame, gather, Saved}
-use Rattle.image.specs.Layout.{filled, valueWords, valuesWords, nodesWords, frameWords, Activation, activation}
-use Rattle.image.specs.Image.{savedActivations, savedFrames}
+use Rattle.image.specs.Layout.{filled, valueWords, valuesWords, nodesWords, frameWords}
+use Rattle.image.specs.Image.{savedFrames}
 use Rattle.image.specs.Decode.{valueOf}
 use Rattle.image.specs.Core.{core}
 use Rattle.image.proofs.Parts.{value-back, length-values, length-nodes}
 use Rattle.image.proofs.Slots.{puts-from, length-value, values-append, values-one, values-at, nodes-at, nodes-set, blank-nodes}
-use Rattle.image.proofs.Rooms.{rooms, filled-is, frame-part, frame-change}
-use Rattle.image.proofs.Frames.{headKind, headWord, frame-words, core-rooms, push-frame, top-word, change-frame}
+use Rattle.image.proofs.Rooms.{filled-is}
+use Rattle.image.proofs.Frames.{headKind, headWord, frame-words, push-frame, top-word, change-frame}
 
 -- ---- the words of a frame that gathers
 
@@ -72,6 +72,25 @@ operand-stored h vs e ns v q =
     = puts-block (valueWords v) (e ∷ 0 ∷ []) p (nodesWords ns ++ z) (4 + 2 * length vs) 0 n (sym (length-value v)) in
     rw (gather-words h vs (e ∷ ns) q, gather-words h (vs ++ (v ∷ [])) ns r, t, i, w, m, append-assoc (valuesWords vs) (valueWords v) (nodesWords ns ++ z))
 
+-- with nodes that are not stored yet
+waiting : (h : Head) (m : ℕ) → m ≤ 7 → frameWords (gather h [] (replicate m 0)) ≡ filled 20 (headKind h ∷ headWord h ∷ 0 ∷ m ∷ [])
+unfolding valuesWords
+waiting h m q =
+    let n : length (replicate {A = ℕ} m 0) ≡ m = length-replicate m 0 in
+    let i : 2 * m + (16 - 2 * (0 + m)) ≡ 16 = omega arith in
+    let z : replicate {A = ℕ} (2 * m) 0 ++ replicate (16 - 2 * (0 + m)) 0 ≡ replicate 16 0
+    = replicate-append-replicate (2 * m) (16 - 2 * (0 + m)) 0 ∙ ap (λ (k : ℕ). replicate {A = ℕ} k 0) i in
+    gather-words h [] (replicate m 0) (omega arith) ∙ rw (n, blank-nodes m, z) (sym (filled-is 20 (headKind h ∷ headWord h ∷ 0 ∷ m ∷ []) (omega arith)))
+
+node-stored : (h : Head) (ns : List ℕ) (k e : ℕ) → k < length ns → length ns ≤ 7
+    → set (frameWords (gather h [] ns)) (4 + 2 * k) e ≡ frameWords (gather h [] (set ns k e))
+unfolding valuesWords
+node-stored h ns k e hk q =
+    let r : 0 + length ns ≤ 7 = omega arith in
+    let t : 0 + length (set ns k e) ≤ 7 = simp length-set (omega arith) in
+    rw (gather-words h [] ns r, gather-words h [] (set ns k e) t, length-set ns k e, ← nodes-set ns k e)
+    (set-block (headKind h ∷ headWord h ∷ 0 ∷ length ns ∷ []) (nodesWords ns) _ 4 (2 * k) e refl (omega (arith, length-nodes ns)))
+
 -- ---- while a state runs
 
 module _ (f : ℕ) (η : List Value) (K : List Frame) (A : List Saved) (R : List ℕ) (n at : ℕ)
@@ -104,3 +123,17 @@ module _ (f : ℕ) (η : List Value) (K : List Frame) (A : List Saved) (R : List
       rw (hy, hz, puts-from ((length vs + 1) ∷ length ns ∷ []) (puts (core f η (gather h vs (e ∷ ns) ∷ K) A ++ R) b 0 (valueWords v)) at 2 0)
       (change-frame f η K A R n at few count place (gather h vs (e ∷ ns)) (gather h (vs ++ (v ∷ [])) ns) b (at + 2) (4 + 2 * length vs) 2
       (valueWords v) ((length vs + 1) ∷ length ns ∷ []) (omega arith) refl (omega (arith, length-value v)) (omega arith) (operand-stored h vs e ns v short))
+
+  -- a frame that gathers is laid on the top, with m nodes that are not stored yet
+  pub push-waiting : (m : ℕ) → n < 512 → m ≤ 7
+      → puts (core f η K A ++ R) at 0 (headKind h ∷ headWord h ∷ 0 ∷ m ∷ []) ≡ core f η (gather h [] (replicate m 0) ∷ K) A ++ R
+  push-waiting m room q =
+      push-frame f η K A R n at few count place (gather h [] (replicate m 0)) (headKind h ∷ headWord h ∷ 0 ∷ m ∷ []) room (omega arith) (waiting h m q)
+
+  -- node k is stored
+  pub store-node : (ns : List ℕ) (k e b : ℕ) → k < length ns → length ns ≤ 7 → b ≡ at + (4 + k * 2)
+      → set (core f η (gather h [] ns ∷ K) A ++ R) b e ≡ core f η (gather h [] (set ns k e) ∷ K) A ++ R
+  store-node ns k e b hk q hb =
+      rw (add-zero b) at
+      (change-frame f η K A R n at few count place (gather h [] ns) (gather h [] (set ns k e)) b at (4 + 2 * k) 0 (e ∷ []) [] (omega arith) (sym (add-zero at))
+      (omega arith) (omega arith) (rw (add-zero (4 + 2 * k)) (node-stored h ns k e hk q)))

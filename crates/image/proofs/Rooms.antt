@@ -13,7 +13,7 @@ use Rattle.words.proofs.Stacks.{every, length-words, length-region, pops-law, w
 use Rattle.semantics.specs.Machine.{Frame}
 use Rattle.image.specs.Layout.{filled, frameWords, Activation, activationWords}
 use Rattle.image.proofs.Parts.{take-over}
-use Rattle.image.proofs.Blocks.{length-filled, frame-wide, activation-wide}
+use Rattle.image.proofs.Blocks.{frame-wide, activation-wide}
 
 -- a head, activations in their room, frames in theirs, and zeros
 unfoldable pub rooms : List ℕ → List Activation → List Frame → List ℕ
@@ -102,6 +102,20 @@ module _ (H R : List ℕ) (X : List Activation) (F : List Frame) (head : length 
         arith,
         length-append H (region 136 activationWords 32 X),
         length-region 136 activationWords 32 X (every (Wide 136 activationWords) activation-wide X) few,
+      )
+
+  pub length-rooms : length F ≤ 512 → length (rooms H X F) ≡ 16384
+  unfolding rooms
+  length-rooms h =
+      omega (
+        arith,
+        length-append H (region 136 activationWords 32 X ++ (region 20 frameWords 512 F ++ replicate 1664 0)),
+        length-append (region 136 activationWords 32 X) (region 20 frameWords 512 F ++ replicate 1664 0),
+        length-append (region 20 frameWords 512 F) (replicate 1664 0),
+        length-append H (region 136 activationWords 32 X),
+        length-front,
+        length-region 20 frameWords 512 F (every (Wide 20 frameWords) frame-wide F) h,
+        length-replicate {A = ℕ} 1664 0,
       )
 
   length-under : (n : ℕ) → n ≡ length F → length (under H R X F) ≡ 4480 + n * 20

@@ -1,10 +1,10 @@
 -- The variables of the current activation while a state runs: read and stored.
-use mathlib.Core.Path.{_≡_, refl, sym, ap, _∙_}
+use mathlib.Core.Path.{_≡_, refl, sym, _∙_}
 use mathlib.Core.List.{List, [], _∷_, _++_, append-assoc}
 use Prim.Native.Nat.{ℕ, suc, _+_, _*_, _-_, _≤_, _<_}
 use native.Mathlib.Nat.{add-zero}
 use native.Mathlib.Omega.{arith}
-use lib.ListN.{length, getD, set, take, drop, replicate, length-append, length-replicate, length-drop, List·getD-append}
+use lib.ListN.{length, getD, set, take, drop, replicate, length-append, length-replicate}
 use lib.Seq.{split-at, set-split, length-take-le, getD-append-add}
 use Rattle.words.specs.Blocks.{puts}
 use Rattle.words.proofs.Blocks.{puts-block}
@@ -17,7 +17,7 @@ use Rattle.image.specs.Core.{core}
 use Rattle.image.proofs.Parts.{value-back, length-values}
 use Rattle.image.proofs.Blocks.{filled-at}
 use Rattle.image.proofs.Images.{length-saved}
-use Rattle.image.proofs.Slots.{length-value, values-append, values-one, values-at}
+use Rattle.image.proofs.Slots.{values-append, values-one, values-at}
 use Rattle.image.proofs.Rooms.{rooms, filled-is, activation-word, activation-change}
 use Rattle.image.proofs.Frames.{core-rooms}
 
