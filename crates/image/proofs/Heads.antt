@@ -30,17 +30,11 @@ filled-over w us vs h k =
     let m : length (us ++ d) ≡ length vs = omega (arith, h, length-append us d, length-replicate {A = ℕ} (length vs - length us) 0) in
     ap (λ (l : List ℕ). puts l 0 0 vs) e ∙ puts-block vs (us ++ d) [] (replicate (w - length vs) 0) 0 0 refl m ∙ sym (filled-is w vs k)
 
-zeros-filled : replicate {A = ℕ} 128 0 ≡ filled 128 []
-unfolding filled
-zeros-filled = refl
-
-two-zeros : replicate {A = ℕ} 128 0 ≡ filled 128 (0 ∷ 0 ∷ [])
-unfolding filled
-two-zeros = refl
-
-five-zeros : replicate {A = ℕ} 128 0 ≡ filled 128 (0 ∷ 0 ∷ 0 ∷ 0 ∷ 0 ∷ [])
-unfolding filled
-five-zeros = refl
+zeros-filled : (w k : ℕ) → k ≤ w → replicate {A = ℕ} w 0 ≡ filled w (replicate k 0)
+zeros-filled w k h =
+    let n : k + (w - k) ≡ w = omega arith in
+    let m : length (replicate {A = ℕ} k 0) ≡ k = length-replicate k 0 in
+    sym (filled-is w (replicate k 0) (omega arith) ∙ rw (m, replicate-append-replicate {A = ℕ} k (w - k) 0, n))
 
 module _ (R : List ℕ) (X : List Activation) (F : List Frame) where
   -- a head is stored over one that is not longer
@@ -66,6 +60,12 @@ length-control (val (truth b)) = refl
 length-control (eval n) = refl
 length-control (exec r) = refl
 
+-- one word of its head
+pub running-word : (c : Control) (α : Ambient) (f : ℕ) (η : List Value) (K : List Frame) (A : List Saved) (R : List ℕ) (j : ℕ) → j < 128
+    → getD (image (running c α f η K A) ++ R) j 0 ≡ getD (2 ∷ 0 ∷ suc (length A) ∷ controlWords c) j 0
+unfolding headWords
+running-word c α f η K A R j h = head-word (running c α f η K A) R j h
+
 module _ (c : Control) (α : Ambient) (f : ℕ) (η : List Value) (K : List Frame) (A : List Saved) (R : List ℕ) (a b : ℕ)
     (count : a ≡ length A) (place : b ≡ 128 + a * 136 + 1) where
   known : a ≡ length (savedActivations A)
@@ -85,7 +85,7 @@ module _ (c : Control) (α : Ambient) (f : ℕ) (η : List Value) (K : List Fram
       → set (puts (core f η K A ++ R) 0 0 (2 ∷ 0 ∷ n ∷ x ∷ y ∷ [])) b k ≡ image (running c α f η K A) ++ R
   unfolding headWords
   store-head n k x y hn hk e =
-      let z : replicate {A = ℕ} 128 0 ≡ filled 128 [] = zeros-filled in
+      let z : replicate {A = ℕ} 128 0 ≡ filled 128 [] = zeros-filled 128 0 (omega arith) in
       let h : n ≡ suc (length A) = omega arith in
       let w : headWords (running c α f η K A) ≡ 2 ∷ 0 ∷ n ∷ x ∷ y ∷ [] = rw (e, h) in
       rw (
@@ -103,7 +103,7 @@ module _ (c : Control) (α : Ambient) (f : ℕ) (η : List Value) (K : List Fram
   -- they are taken out
   pub clear-head : set (puts (image (running c α f η K A) ++ R) 0 0 (0 ∷ 0 ∷ 0 ∷ 0 ∷ 0 ∷ [])) b 0 ≡ core f η K A ++ R
   clear-head =
-      let z : replicate {A = ℕ} 128 0 ≡ filled 128 (0 ∷ 0 ∷ 0 ∷ 0 ∷ 0 ∷ []) = five-zeros in
+      let z : replicate {A = ℕ} 128 0 ≡ filled 128 (0 ∷ 0 ∷ 0 ∷ 0 ∷ 0 ∷ []) = zeros-filled 128 5 (omega arith) in
       rw (
         place,
         running-rooms,
@@ -115,23 +115,7 @@ module _ (c : Control) (α : Ambient) (f : ℕ) (η : List Value) (K : List Fram
       (rooms-count (filled 128 (0 ∷ 0 ∷ 0 ∷ 0 ∷ 0 ∷ [])) R (savedActivations A) (K ++ savedFrames A)
       (length-filled 128 (0 ∷ 0 ∷ 0 ∷ 0 ∷ 0 ∷ [])) a known f (length K) η 0)
 
-  -- they are read
-  pub head-tag : getD (image (running c α f η K A) ++ R) 0 0 ≡ 2
-  unfolding headWords
-  head-tag = head-word (running c α f η K A) R 0 (omega arith)
-
-  pub head-count : getD (image (running c α f η K A) ++ R) 2 0 ≡ suc (length A)
-  unfolding headWords
-  head-count = head-word (running c α f η K A) R 2 (omega arith)
-
-  pub head-form : getD (image (running c α f η K A) ++ R) 3 0 ≡ getD (controlWords c) 0 0
-  unfolding headWords
-  head-form = head-word (running c α f η K A) R 3 (omega arith)
-
-  pub head-control : getD (image (running c α f η K A) ++ R) 4 0 ≡ getD (controlWords c) 1 0
-  unfolding headWords
-  head-control = head-word (running c α f η K A) R 4 (omega arith)
-
+  -- the frame count is read
   pub frame-count : getD (image (running c α f η K A) ++ R) b 0 ≡ length K
   unfolding activationWords filled
   frame-count =
@@ -139,9 +123,9 @@ module _ (c : Control) (α : Ambient) (f : ℕ) (η : List Value) (K : List Fram
       (activation-word (filled 128 (headWords (running c α f η K A))) R (savedActivations A) (K ++ savedFrames A)
       (length-filled 128 (headWords (running c α f η K A))) a known (activation f (length K) η) 1 (omega arith))
 
--- ---- a state with no activation
+-- ---- at rest
 
--- its head, by cases
+-- a state with no activation
 abbrev pub Resting : State → Type 0
 Resting (State.value c) = Unit {0}
 Resting (exception x) = Unit {0}
@@ -149,6 +133,7 @@ Resting (main α) = Unit {0}
 Resting (returned α c) = Unit {0}
 Resting (running c α f η K A) = ⊥
 
+-- its head
 abbrev pub exceptionTag : Exception → ℕ
 exceptionTag Exception.arith = 5
 exceptionTag abort = 6
@@ -190,14 +175,14 @@ module _ (s : State) (R : List ℕ) (rest : Resting s) (z : ℕ) (all : z ≡ 16
   -- its head is stored in zeros
   pub store-rest : puts (replicate z 0 ++ R) 0 0 (restWords s) ≡ image s ++ R
   store-rest =
-      rw (← empty-rooms z all, rest-rooms s rest, zeros-filled)
-      (rooms-head R [] [] [] (restWords s) (omega arith) (omega (arith, rest-short s)))
+      let e : replicate {A = ℕ} 128 0 ≡ filled 128 [] = zeros-filled 128 0 (omega arith) in
+      rw (← empty-rooms z all, rest-rooms s rest, e) (rooms-head R [] [] [] (restWords s) (omega arith) (omega (arith, rest-short s)))
 
   -- it is taken out
   pub clear-rest : puts (image s ++ R) 0 0 (0 ∷ 0 ∷ []) ≡ replicate z 0 ++ R
   clear-rest =
-      rw (← empty-rooms z all, rest-rooms s rest, two-zeros)
-      (rooms-head R [] [] (restWords s) (0 ∷ 0 ∷ []) (rest-short s) (omega arith))
+      let e : replicate {A = ℕ} 128 0 ≡ filled 128 (0 ∷ 0 ∷ []) = zeros-filled 128 2 (omega arith) in
+      rw (← empty-rooms z all, rest-rooms s rest, e) (rooms-head R [] [] (restWords s) (0 ∷ 0 ∷ []) (rest-short s) (omega arith))
 
 -- ---- a running state that ends
 
