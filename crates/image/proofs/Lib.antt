@@ -2,6 +2,13 @@ pub mod Narrow
 pub mod Parts
 pub mod Blocks
 pub mod Images
+pub mod Slots
+pub mod Rooms
+pub mod Frames
+pub mod Operands
+pub mod Variables
+pub mod Heads
+pub mod Calls
 pub mod Sized
 pub mod Memory
 pub mod Samples

@@ -2,7 +2,7 @@
 use mathlib.Core.Path.{_≡_, refl, ap, _∙_}
 use mathlib.Core.Bool.{true, false}
 use mathlib.Core.List.{List, [], _∷_, _++_}
-use Prim.Native.Nat.{ℕ, suc, _+_, _*_, _-_, _/_, _%_, _≤_, _<_}
+use Prim.Native.Nat.{ℕ, zero, suc, _+_, _*_, _-_, _/_, _%_, _≤_, _<_}
 use native.Mathlib.Nat.{zero-add, mod-eq-of-lt, div-eq-of-lt, add-mul-mod-self-left, add-mul-div-left}
 use native.Mathlib.Omega.{arith}
 use lib.ListN.{length, getD, take}
@@ -26,6 +26,18 @@ ref-back Ref.nop = refl
 ref-back (node n) = let e : 1 + 3 * n ≡ suc (0 + 3 * n) = omega arith in let t = third 0 n (omega arith) in rw (e, t .0, t .1)
 ref-back (ifOf n) = let e : 2 + 3 * n ≡ suc (1 + 3 * n) = omega arith in let t = third 1 n (omega arith) in rw (e, t .0, t .1)
 ref-back (seqOf n) = let e : 3 + 3 * n ≡ suc (2 + 3 * n) = omega arith in let t = third 2 n (omega arith) in rw (e, t .0, t .1)
+
+-- every word is a reference's
+pub ref-word : (w : ℕ) → refWord (refOf w) ≡ w
+unfolding refOf refWord
+ref-word zero = refl
+ref-word (suc m) = go (m % 3) refl
+  where
+    go : (k : ℕ) → m % 3 ≡ k → refWord (refOf (suc m)) ≡ suc m
+    go zero e = rw e (omega arith)
+    go (suc zero) e = rw e (omega arith)
+    go (suc (suc zero)) e = rw e (omega arith)
+    go (suc (suc (suc k))) e = absurd (omega arith)
 
 pub value-back : (v : Value) → valueOf (getD (valueWords v) 0 0) (getD (valueWords v) 1 0) ≡ v
 unfolding valueOf valueWords bit

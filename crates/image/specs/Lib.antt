@@ -2,3 +2,4 @@ pub mod Layout
 pub mod Image
 pub mod Decode
 pub mod Memory
+pub mod Core
