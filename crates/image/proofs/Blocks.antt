@@ -11,7 +11,7 @@ use Rattle.semantics.specs.Program.{Head, op, fn}
 use Rattle.semantics.specs.Machine.{Frame, gather, and, wait, branch, check}
 use Rattle.image.specs.Layout.{filled, valuesWords, nodesWords, block, gathering, frameWords, Activation, activation, activationWords}
 use Rattle.image.specs.Decode.{operands, frames, frameOf, activationOf}
-use Rattle.image.proofs.Narrow.{NarrowFrame, NarrowActivation}
+use Rattle.image.specs.Narrow.{NarrowFrame, NarrowActivation}
 use Rattle.image.proofs.Parts.{ref-back, length-values, length-nodes, values-back, nodes-back, take-over}
 
 -- a block has its width, whatever it holds

@@ -17,7 +17,7 @@ use Rattle.semantics.specs.Fit.{Within, callerLimit, frameLimit}
 use Rattle.image.specs.Layout.{filled, frameWords, activationWords}
 use Rattle.image.specs.Image.{savedActivations, savedFrames, headWords, activationsOf, framesOf, image}
 use Rattle.image.specs.Decode.{frameOf, controlOf, activationOf, framesHeld, callersOf, runningOf, activationsIn, framesIn, states, stateOf}
-use Rattle.image.proofs.Narrow.{NarrowFrame, NarrowActivation, Narrow}
+use Rattle.image.specs.Narrow.{NarrowFrame, NarrowActivation, Narrow}
 use Rattle.image.proofs.Parts.{control-back}
 use Rattle.image.proofs.Blocks.{length-filled, filled-at, frame-wide, frame-back, activation-wide, activation-back, every-so}
 

@@ -1,4 +1,3 @@
-pub mod Narrow
 pub mod Parts
 pub mod Blocks
 pub mod Images

@@ -18,7 +18,7 @@ use Rattle.image.specs.Image.{image}
 use Rattle.image.specs.Decode.{stateOf}
 use Rattle.image.specs.Memory.{size, Holds, fitWords}
 use Rattle.image.proofs.Blocks.{zeros-at}
-use Rattle.image.proofs.Narrow.{Narrow}
+use Rattle.image.specs.Narrow.{Narrow}
 use Rattle.image.proofs.Images.{image-length, decode-image, image-inj, marked}
 use Rattle.image.proofs.Sized.{Sized, fit-narrow}
 

@@ -20,7 +20,7 @@ use Rattle.semantics.proofs.Holding.{holds-length}
 use Rattle.semantics.proofs.Operands.{types-length}
 use Rattle.semantics.proofs.Nodes.{variables}
 use Rattle.image.specs.Image.{savedActivations, savedFrames, activationsOf, framesOf}
-use Rattle.image.proofs.Narrow.{NarrowFrame, NarrowActivation, Narrow}
+use Rattle.image.specs.Narrow.{NarrowFrame, NarrowActivation, Narrow}
 
 -- at most 8 parameters and 64 variables in a function
 pub record Sized (P : Program) : Type 0 where

@@ -3,3 +3,4 @@ pub mod Image
 pub mod Decode
 pub mod Memory
 pub mod Core
+pub mod Narrow
