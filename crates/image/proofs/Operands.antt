@@ -73,9 +73,9 @@ operand-stored h vs e ns v q =
     rw (gather-words h vs (e ∷ ns) q, gather-words h (vs ++ (v ∷ [])) ns r, t, i, w, m, append-assoc (valuesWords vs) (valueWords v) (nodesWords ns ++ z))
 
 -- with nodes that are not stored yet
-waiting : (h : Head) (m : ℕ) → m ≤ 7 → frameWords (gather h [] (replicate m 0)) ≡ filled 20 (headKind h ∷ headWord h ∷ 0 ∷ m ∷ [])
+pub waiting-words : (h : Head) (m : ℕ) → m ≤ 7 → frameWords (gather h [] (replicate m 0)) ≡ filled 20 (headKind h ∷ headWord h ∷ 0 ∷ m ∷ [])
 unfolding valuesWords
-waiting h m q =
+waiting-words h m q =
     let n : length (replicate {A = ℕ} m 0) ≡ m = length-replicate m 0 in
     let i : 2 * m + (16 - 2 * (0 + m)) ≡ 16 = omega arith in
     let z : replicate {A = ℕ} (2 * m) 0 ++ replicate (16 - 2 * (0 + m)) 0 ≡ replicate 16 0
@@ -128,7 +128,7 @@ module _ (f : ℕ) (η : List Value) (K : List Frame) (A : List Saved) (R : List
   pub push-waiting : (m : ℕ) → n < 512 → m ≤ 7
       → puts (core f η K A ++ R) at 0 (headKind h ∷ headWord h ∷ 0 ∷ m ∷ []) ≡ core f η (gather h [] (replicate m 0) ∷ K) A ++ R
   push-waiting m room q =
-      push-frame f η K A R n at few count place (gather h [] (replicate m 0)) (headKind h ∷ headWord h ∷ 0 ∷ m ∷ []) room (omega arith) (waiting h m q)
+      push-frame f η K A R n at few count place (gather h [] (replicate m 0)) (headKind h ∷ headWord h ∷ 0 ∷ m ∷ []) room (omega arith) (waiting-words h m q)
 
   -- node k is stored
   pub store-node : (ns : List ℕ) (k e b : ℕ) → k < length ns → length ns ≤ 7 → b ≡ at + (4 + k * 2)
