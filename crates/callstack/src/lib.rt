@@ -71,6 +71,22 @@ pub fn leave(m: &mut [u32], n: usize, a: usize, j: usize)
     store::put_frame_count(m, a, 0)
 }
 
+// The function of the caller that has a callers.
+pub fn caller_function(m: &[u32], a: usize) -> u32
+    requires { ⌜ (16384 ≤ length (now m)) × (a < 32) ⌝ }
+    ensures { λ r. ⌜ ((f : ℕ) (η : List Value) (J : List Frame) (g : ℕ) (θ : List Value) (L : List Frame) (A : List Saved) (R : List ℕ) → now (m .entry) ≡ core f η J (saved g θ L ∷ A) ++ R → a ≡ length A → r ≡ g) ⌝ }
+{
+    store::activation_word(m, a, 0)
+}
+
+// How many frames the caller has that has a callers.
+pub fn caller_frames(m: &[u32], a: usize) -> u32
+    requires { ⌜ (16384 ≤ length (now m)) × (a < 32) ⌝ }
+    ensures { λ r. ⌜ ((f : ℕ) (η : List Value) (J : List Frame) (g : ℕ) (θ : List Value) (L : List Frame) (A : List Saved) (R : List ℕ) → now (m .entry) ≡ core f η J (saved g θ L ∷ A) ++ R → a ≡ length A → r ≡ length L) ⌝ }
+{
+    store::activation_word(m, a, 1)
+}
+
 // Enters main, function g of c variables, where all words are zero.
 pub fn enter_main(m: &mut [u32], g: u32, c: u32)
     requires { ⌜ 16384 ≤ length (now m) ⌝ }

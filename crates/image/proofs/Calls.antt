@@ -2,6 +2,7 @@
 use mathlib.Core.Path.{_≡_, refl, sym, ap, _∙_}
 use mathlib.Core.List.{List, [], _∷_, _++_, append-assoc}
 use Prim.Native.Nat.{ℕ, suc, _+_, _*_, _-_, _≤_, _<_}
+use native.Mathlib.Nat.{add-zero}
 use native.Mathlib.Omega.{arith}
 use lib.ListN.{length, getD, set, take, drop, replicate, length-append, length-replicate, replicate-append-replicate}
 use Rattle.words.specs.Blocks.{puts}
@@ -138,6 +139,16 @@ enter-main R z at g c all place short =
 -- ---- left
 
 module _ (f : ℕ) (η : List Value) (J : List Frame) (R : List ℕ) where
+  -- the caller's function
+  pub caller-function : (g : ℕ) (θ : List Value) (L : List Frame) (A : List Saved) (a b : ℕ) → a ≡ length A → b ≡ 128 + a * 136
+      → getD (core f η J (saved g θ L ∷ A) ++ R) b 0 ≡ g
+  unfolding savedActivations activationWords filled
+  caller-function g θ L A a b count old =
+      rw (old, core-rooms f η J (saved g θ L ∷ A))
+      (rw (add-zero (128 + a * 136)) at
+      (caller-word (replicate 128 0) R (savedActivations A) (J ++ savedFrames (saved g θ L ∷ A)) (length-replicate {A = ℕ} 128 0) a (count ∙ sym (length-saved A))
+      (activation g (length L) θ) (activation f 0 η) 0 (omega arith)))
+
   -- the caller's frame count
   pub caller-count : (g : ℕ) (θ : List Value) (L : List Frame) (A : List Saved) (a b : ℕ) → a ≡ length A → b ≡ 128 + a * 136 + 1
       → getD (core f η J (saved g θ L ∷ A) ++ R) b 0 ≡ length L

@@ -62,7 +62,7 @@ pub fn push_gather(
     last: usize,
 ) -> usize
     requires { ⌜ (16384 ≤ length (now m)) × (n < 512) × (1 ≤ k) × (k ≤ 8) × (12 * last + 12 ≤ length (now part)) × (last < 4096) ⌝ }
-    ensures { λ r. ⌜ ((f : ℕ) (η : List Value) (h : Head) (e : ℕ) (ns : List ℕ) (K : List Frame) (A : List Saved) (R : List ℕ) → now (m .entry) ≡ core f η K A ++ R → length A < 32 → n ≡ length (K ++ savedFrames A) → ((z : ℕ) → z ≤ 7 → frameWords (gather h [] (replicate z 0)) ≡ filled 20 (kind ∷ x ∷ 0 ∷ z ∷ [])) → backwards (walk (sizeAt (now (part .entry))) k last) [] ≡ e ∷ ns → (r ≡ e) × (now (m .exit) ≡ core f η (gather h [] ns ∷ K) A ++ R)) ⌝ }
+    ensures { λ r. ⌜ (r ≤ last) × ((f : ℕ) (η : List Value) (h : Head) (e : ℕ) (ns : List ℕ) (K : List Frame) (A : List Saved) (R : List ℕ) → now (m .entry) ≡ core f η K A ++ R → length A < 32 → n ≡ length (K ++ savedFrames A) → ((z : ℕ) → z ≤ 7 → frameWords (gather h [] (replicate z 0)) ≡ filled 20 (kind ∷ x ∷ 0 ∷ z ∷ [])) → backwards (walk (sizeAt (now (part .entry))) k last) [] ≡ e ∷ ns → (r ≡ e) × (now (m .exit) ≡ core f η (gather h [] ns ∷ K) A ++ R)) ⌝ }
 {
     store::put_frame(m, n, kind, x, 0, k - 1);
     let mut j = k as usize - 1;

@@ -108,13 +108,16 @@ same-length c = c .before .loop .inv .2 ∙ c .before .before .before .before .p
 -- src/lib.rt:55:1
 returns : tie.Need-returns Inv-loop μ-loop
 unfolding frameAt
-returns c f η h e ns K A R held few n words kids =
+returns c =
     let l = c .before .loop in
     let b = c .before .before .before .before .before .before .before .before in
-    let q : b .args .k - 1 ≤ 7 = omega arith in
-    store-done _ _ _ f η h K A R _ _ _ e ns (omega arith) (l .inv .3 f η h K A R
-    (c .before .before .before .before .put-frame .ensures ∙ rw held (push-frame f η K A R _ _ few n refl (gather h [] (replicate (b .args .k - 1) 0)) (b .args .kind ∷ b .args .x ∷ 0 ∷ (b .args .k - 1) ∷ []) (search needs) (omega arith) (words _ q)))
-    few n refl (search needs) (search needs)) kids
+    let q : b .args .k - 1 ≤ 7 = omega arith in (
+      l .inv .1,
+      λ f η h e ns K A R held few n words kids.
+          store-done _ _ _ f η h K A R _ _ _ e ns (omega arith) (l .inv .3 f η h K A R
+          (c .before .before .before .before .put-frame .ensures ∙ rw held (push-frame f η K A R _ _ few n refl (gather h [] (replicate (b .args .k - 1) 0)) (b .args .kind ∷ b .args .x ∷ 0 ∷ (b .args .k - 1) ∷ []) (search needs) (omega arith) (words _ q)))
+          few n refl (search needs) (search needs)) kids,
+    )
 
 pub push-gather-spec : {M : Type 1} → statement M
 push-gather-spec =

@@ -1,0 +1,38 @@
+use Rattle.semantics.specs.Program.{Ref}
+use Rattle.semantics.specs.Machine.{exec, calm}
+use Rattle.transitions.proofs.Steps.{rebased, within-yes}
+use mathlib.Core.Path.{refl, _∙_, sym}
+use mathlib.Core.List.{_∷_}
+use native.Mathlib.Omega.{arith}
+use Rattle.transitions.proofs.Steps.{counted, counted-under, on, moved, full}
+use Rattle.store.specs.Meaning.{refIs, controlIs}
+use borrow.Author.Needs.{needs}
+use Rattle.transitions.proofs.assign.Statement.{statement}
+use Rattle.transitions.proofs.assign.Tie as tie
+use Rattle.transitions.proofs.assign.Reads as reads
+use Rattle.transitions.proofs.assign.Lts as lts
+use Rattle.callstack.proofs.set_variable.Reads as set-variable-reads
+use Rattle.transitions.proofs.take_off.Reads as take-off-reads
+
+-- src/lib.rt:99:5
+set-variable-requires : tie.Need-set-variable-requires
+set-variable-requires c κs = search needs
+
+-- src/lib.rt:100:5
+take-off-requires : tie.Need-take-off-requires
+take-off-requires c κs = search needs
+
+-- src/lib.rt:95:1
+same-length : tie.Need-same-length
+same-length c = search needs
+
+-- src/lib.rt:95:1
+returns : tie.Need-returns
+unfolding controlIs refIs
+returns c s f η fr K A R e t x w =
+    let q = c .before .before .before .before .before .before .before .before .before .pre in
+    rebased s _ _ _ _ R _ (within-yes (exec Ref.nop) calm f η K A (omega (arith, t .callers, q .0 .1)) (omega (arith, t .frames, t .under, q .0 .2)))
+    (c .before .before .take-off .ensures s f _ fr K A R (c .before .before .before .before .before .before .set-variable .ensures f η (fr ∷ K) A R e (t .callers) x w) t)
+
+pub assign-spec : {M : Type 1} → statement M
+assign-spec = tie.close (tie.spec set-variable-requires take-off-requires same-length returns)
