@@ -11,7 +11,7 @@ pub enum Applied {
 }
 
 // A word read as signed.
-pub fn signed(a: u32) -> i32
+fn signed(a: u32) -> i32
     ensures { λ r. ⌜ r ≡ int a ⌝ }
 {
     if a < 2147483648 {
@@ -22,7 +22,7 @@ pub fn signed(a: u32) -> i32
 }
 
 // The word of an integer.
-pub fn bits(z: i32) -> u32
+fn bits(z: i32) -> u32
     ensures { λ r. ⌜ r ≡ wrap z ⌝ }
 {
     if 0 <= z {
@@ -33,21 +33,21 @@ pub fn bits(z: i32) -> u32
 }
 
 // The sum.
-pub fn add(a: u32, b: u32) -> u32
+fn add(a: u32, b: u32) -> u32
     ensures { λ r. ⌜ r ≡ addOf a b ⌝ }
 {
     std::num::wrapping_add_u32(a, b)
 }
 
 // The difference.
-pub fn sub(a: u32, b: u32) -> u32
+fn sub(a: u32, b: u32) -> u32
     ensures { λ r. ⌜ r ≡ subOf a b ⌝ }
 {
     std::num::wrapping_sub_u32(a, b)
 }
 
 // The product.
-pub fn mul(a: u32, b: u32) -> u32
+fn mul(a: u32, b: u32) -> u32
     ensures { λ r. ⌜ r ≡ mulOf a b ⌝ }
 {
     let p = a as u64 * b as u64;
@@ -55,14 +55,14 @@ pub fn mul(a: u32, b: u32) -> u32
 }
 
 // Whether both divisions raise arith.
-pub fn no_quotient(a: u32, b: u32) -> bool
+fn no_quotient(a: u32, b: u32) -> bool
     ensures { λ r. ⌜ r ≡ noQuotient a b ⌝ }
 {
     (b == 0) | ((a == 2147483648) & (b == 4294967295))
 }
 
 // The quotient.
-pub fn quot(a: u32, b: u32) -> Applied
+fn quot(a: u32, b: u32) -> Applied
     ensures { λ r. ⌜ r ≡ divided a b (quotOf a b) ⌝ }
 {
     if no_quotient(a, b) {
@@ -74,7 +74,7 @@ pub fn quot(a: u32, b: u32) -> Applied
 }
 
 // The remainder.
-pub fn rem(a: u32, b: u32) -> Applied
+fn rem(a: u32, b: u32) -> Applied
     ensures { λ r. ⌜ r ≡ divided a b (remOf a b) ⌝ }
 {
     if no_quotient(a, b) {
@@ -86,14 +86,14 @@ pub fn rem(a: u32, b: u32) -> Applied
 }
 
 // The shift to the left.
-pub fn shl(edition: u8, a: u32, b: u32) -> Applied
+fn shl(edition: u8, a: u32, b: u32) -> Applied
     ensures { λ r. ⌜ r ≡ shifted edition (shlOf a) b ⌝ }
 {
     Applied::Int(a << (b % 32))
 }
 
 // The shift to the right.
-pub fn shr(edition: u8, a: u32, b: u32) -> Applied
+fn shr(edition: u8, a: u32, b: u32) -> Applied
     ensures { λ r. ⌜ r ≡ shifted edition (shrOf a) b ⌝ }
 {
     let z = signed(a);
@@ -102,14 +102,14 @@ pub fn shr(edition: u8, a: u32, b: u32) -> Applied
 }
 
 // Whether a is less than b.
-pub fn lt(a: u32, b: u32) -> bool
+fn lt(a: u32, b: u32) -> bool
     ensures { λ r. ⌜ r ≡ ltOf a b ⌝ }
 {
     signed(a) < signed(b)
 }
 
 // Whether a is at most b.
-pub fn le(a: u32, b: u32) -> bool
+fn le(a: u32, b: u32) -> bool
     ensures { λ r. ⌜ r ≡ leOf a b ⌝ }
 {
     signed(a) <= signed(b)

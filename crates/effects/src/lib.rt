@@ -60,21 +60,21 @@ pub fn is_empty(set: VarSet) -> bool
 }
 
 // A code, or the code of a failure.
-pub fn code_if(passes: bool, code: u8) -> u8
+fn code_if(passes: bool, code: u8) -> u8
     ensures { λ r. ⌜ (r < 255 → (passes ≡ true) × (r ≡ code)) ⌝ }
 {
     if passes { code } else { 255 }
 }
 
 // The code of one statement after another.
-pub fn code_either(a: u8, b: u8) -> u8
+fn code_either(a: u8, b: u8) -> u8
     ensures { λ r. ⌜ (r ≡ 4 → (a ≡ 4) ⊎ (b ≡ 4)) ⌝ }
 {
     if a == 4 { 4 } else { b }
 }
 
 // The code of two branches.
-pub fn code_both(a: u8, b: u8) -> u8
+fn code_both(a: u8, b: u8) -> u8
     ensures { λ r. ⌜ (r ≡ 4 → (a ≡ 4) × (b ≡ 4)) ⌝ }
 {
     if a == 4 { b } else { 3 }

@@ -52,7 +52,7 @@ fn count_decl(part: &[u8], i: usize, d: Declared) -> Declared
 }
 
 // The variables declared in a part of n nodes, and those declared more than once.
-pub fn declared_in(part: &[u8], n: usize) -> Declared
+fn declared_in(part: &[u8], n: usize) -> Declared
     requires inside { ⌜ 12 * n ≤ length (now part) ⌝ }
     requires named { ⌜ Named (now part) n ⌝ }
     ensures { λ r. ⌜ Counts (now (part .entry)) n r ⌝ }

@@ -39,7 +39,7 @@ fn mask_fits(mask: u8, p: u8) -> bool
 }
 
 // Whether the record of function f is right.
-pub fn function_ok(file: &[u8], f: usize) -> bool
+fn function_ok(file: &[u8], f: usize) -> bool
     requires { ⌜ 12 * (1 + f) + 12 ≤ length (now file) ⌝ }
     ensures { λ r. ⌜ r ≡ functionOk (now (file .entry)) f ⌝ }
 {
