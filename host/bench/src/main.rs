@@ -1,7 +1,8 @@
-//! Times the proved check beside the fast plain one and prints Markdown tables.
+//! Times the proved check and the machine beside the fast plain ones and prints Markdown tables.
 //!
 //! Without the feature `proved` the reference stands where the proved check would.
 
+mod machine;
 mod timing;
 
 use files::{late, shapes};
@@ -110,6 +111,7 @@ fn run() {
         .collect();
     print_rows(side.name, &rows);
     print_summary(side.name, &rows);
+    machine::run();
 }
 
 /// Runs on a thread whose stack holds the deepest trees.

@@ -3,7 +3,11 @@
 pub mod aimed;
 mod draw;
 mod draw_stmt;
+pub mod endless;
 pub mod late;
+pub mod lively;
+mod lively_expr;
+mod lively_stmt;
 pub mod noise;
 mod plan;
 pub mod record;

@@ -90,7 +90,7 @@ fn function(rng: &mut Rng, plan: &Plan, own: &Signature, budget: usize) -> Funct
 }
 
 /// Renames a function's own variables at random.
-fn shuffle_variables(rng: &mut Rng, file: &mut File, number: usize) {
+pub(crate) fn shuffle_variables(rng: &mut Rng, file: &mut File, number: usize) {
     let record = &file.functions[number];
     let (params, vars) = (u32::from(record.params), u32::from(record.vars));
     let mut names: Vec<u32> = (0..vars).collect();

@@ -5,6 +5,7 @@
 
 mod body;
 mod fields;
+pub mod machine;
 mod reads;
 mod stack;
 

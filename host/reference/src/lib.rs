@@ -1,9 +1,13 @@
-//! The check of procedure files, questions 1 to 14, written from the paper alone.
+//! The check of procedure files, the machine and its entry points, written from the paper alone.
 
+pub mod calls;
 pub mod fast;
 mod fields;
+pub mod fit;
 mod flow;
 mod head;
+pub mod image;
+pub mod machine;
 mod record;
 mod returns;
 mod scope;

@@ -1,6 +1,7 @@
 //! The worked files with their answers, and the sides that are asked.
 
 pub mod case;
+pub mod machine;
 #[cfg(feature = "proved")]
 pub mod proved;
 pub mod random;

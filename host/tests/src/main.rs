@@ -1,9 +1,9 @@
-//! Runs the table and the random comparison and prints a line for each group.
+//! Runs the table, the random comparison and the machine's scenarios and prints a line for each group.
 
 use tests::case::Group;
 use tests::random::{self, Tally, KINDS};
 use tests::report::Outcome;
-use tests::{sides, worked, Side};
+use tests::{machine, sides, worked, Side};
 
 /// The random files of a run where PANELRUE_FILES says nothing.
 const FILES: usize = 240_000;
@@ -112,6 +112,7 @@ fn run() -> Total {
     run_random(&sides[1..], &mut total);
     #[cfg(feature = "proved")]
     total.add("start, answer and memory", "proved", &tests::starts::outcome());
+    machine::run(&mut |group, side, outcome| total.add(group, side, outcome));
     total
 }
 

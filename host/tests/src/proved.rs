@@ -1,6 +1,11 @@
 //! The proved entry points behind their C interface.
 
+#[cfg(feature = "machine")]
+mod machine;
+
 use crate::Answer;
+#[cfg(feature = "machine")]
+pub use machine::{look_up, memory_check, run};
 
 extern "C" {
     /// 0 for an accepted file, else question + 256 × item + 65,536 × place.
@@ -26,7 +31,5 @@ pub fn check(file: &[u8]) -> Answer {
 /// The proved start's answer.
 pub fn start(file: &[u8], memory: &mut [u32]) -> Answer {
     // The pointers and lengths are those of slices that live through the call, and the memory is lent to it alone.
-    answer(unsafe {
-        panelrue_start(file.as_ptr(), file.len(), memory.as_mut_ptr(), memory.len())
-    })
+    answer(unsafe { panelrue_start(file.as_ptr(), file.len(), memory.as_mut_ptr(), memory.len()) })
 }

@@ -1,6 +1,7 @@
 //! The printed lines and the sum of all groups.
 
 use crate::Answer;
+use std::fmt::Debug;
 
 /// The most differences printed for a group.
 const SHOWN: usize = 5;
@@ -8,8 +9,8 @@ const SHOWN: usize = 5;
 /// A file whose answer was not the expected one.
 pub struct Difference {
     pub name: String,
-    pub expected: Answer,
-    pub got: Answer,
+    pub expected: String,
+    pub got: String,
     pub file: Vec<u8>,
 }
 
@@ -23,7 +24,7 @@ pub struct Outcome {
 }
 
 impl Outcome {
-    /// Counts one comparison; the name is made only for a difference.
+    /// Counts one comparison of answers; the name is made only for a difference.
     pub fn compare(
         &mut self,
         name: impl FnOnce() -> String,
@@ -31,13 +32,46 @@ impl Outcome {
         expected: Answer,
         got: Answer,
     ) {
-        if expected == got {
+        self.judge(expected == got, file, || (name(), shown(expected), shown(got)));
+    }
+
+    /// Counts one comparison of anything else.
+    pub fn same<T: PartialEq + Debug>(
+        &mut self,
+        name: impl FnOnce() -> String,
+        file: &[u8],
+        expected: T,
+        got: T,
+    ) {
+        let alike = expected == got;
+        self.judge(alike, file, || (name(), format!("{expected:?}"), format!("{got:?}")));
+    }
+
+    /// Counts one comparison of memories and names the first word that differs.
+    pub fn words(
+        &mut self,
+        name: impl FnOnce() -> String,
+        file: &[u8],
+        expected: &[u32],
+        got: &[u32],
+    ) {
+        self.judge(expected == got, file, || {
+            let at = expected.iter().zip(got).position(|(e, g)| e != g);
+            let at = at.unwrap_or(expected.len().min(got.len()));
+            let word = |words: &[u32]| format!("word {at} {:?}", words.get(at));
+            (name(), word(expected), word(got))
+        });
+    }
+
+    /// Counts a comparison; name, expected and got are made only for a difference.
+    fn judge(&mut self, alike: bool, file: &[u8], told: impl FnOnce() -> (String, String, String)) {
+        if alike {
             self.passed += 1;
             return;
         }
         self.failed += 1;
         if self.differences.len() < SHOWN {
-            let (name, file) = (name(), file.to_vec());
+            let ((name, expected, got), file) = (told(), file.to_vec());
             self.differences.push(Difference { name, expected, got, file });
         }
     }
@@ -56,8 +90,8 @@ impl Outcome {
             if self.failed == 0 { "ok".to_string() } else { format!("FAILED {}", self.failed) };
         println!("{group:<32} {side:<10} {:>7} {verdict}", self.passed + self.failed);
         for d in &self.differences {
-            let (expected, got) = (shown(d.expected), shown(d.got));
-            println!("  {}: expected {expected}, got {got}\n    {}", d.name, hex(&d.file));
+            let Difference { name, expected, got, file } = d;
+            println!("  {name}: expected {expected}, got {got}\n    {}", hex(file));
         }
     }
 }

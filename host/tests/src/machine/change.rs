@@ -1,0 +1,85 @@
+//! Changes of single words of an image.
+
+use files::rng::Rng;
+use reference::image::{ACTIVATION, ACTIVATIONS, FRAME, FRAMES, WORDS};
+
+/// A word that is likely to matter in an image.
+fn place(rng: &mut Rng, words: &[u32]) -> usize {
+    let activations = (words[2] as usize).min(31);
+    let counts = words[ACTIVATIONS..FRAMES].chunks_exact(ACTIVATION).map(|a| a[1] as usize);
+    let frames = counts.sum::<usize>().min(511);
+    match rng.below(10) {
+        0 | 1 => rng.below(7),
+        2..=4 => {
+            let activation = ACTIVATIONS + ACTIVATION * rng.between(0, activations);
+            let vars = (words[activation + 2] as usize).min(63);
+            let most = if rng.one_in(2) { 4 } else { 10 + 2 * vars };
+            activation + rng.below(most)
+        }
+        5..=8 => {
+            let most = if rng.one_in(4) { FRAME } else { 7 };
+            FRAMES + FRAME * rng.between(0, frames) + rng.below(most)
+        }
+        _ => rng.below(WORDS),
+    }
+}
+
+/// Another word in the place of an old one.
+fn word(rng: &mut Rng, words: &[u32], old: u32) -> u32 {
+    match rng.below(10) {
+        0 => 0,
+        1 => old.wrapping_add(1),
+        2 => old.wrapping_sub(1),
+        3 => old.wrapping_add(3),
+        4 => old.wrapping_sub(3),
+        5 => rng.below(12) as u32,
+        6 => rng.below(120) as u32,
+        7 => rng.edge_word(),
+        8 => old ^ (1 << rng.below(32)),
+        _ => words[place(rng, words)],
+    }
+}
+
+/// Gives a variable, or a frame's first slot, any value of any type.
+fn revalue(rng: &mut Rng, words: &mut [u32]) -> Vec<(usize, u32)> {
+    let activation = ACTIVATIONS + ACTIVATION * rng.below((words[2] as usize).clamp(1, 32));
+    let vars = (words[activation + 2] as usize).min(64);
+    let at = if rng.one_in(4) {
+        FRAMES + FRAME * rng.below((words[activation + 1] as usize).clamp(1, 512)) + 4
+    } else {
+        activation + 8 + 2 * rng.below(vars)
+    };
+    let old = vec![(at, words[at]), (at + 1, words[at + 1])];
+    let kept = !rng.one_in(4) && words[at] != 0;
+    let ty = if kept { words[at] } else { rng.below(3) as u32 };
+    let word = [0, rng.edge_word(), rng.below(2) as u32][(ty as usize).min(2)];
+    words[at..at + 2].copy_from_slice(&[ty, word]);
+    old
+}
+
+/// Changes one or two words and gives their places with the old words, the last change first.
+pub fn change(rng: &mut Rng, words: &mut [u32]) -> Vec<(usize, u32)> {
+    if words[0] == 2 && rng.one_in(5) {
+        return revalue(rng, words);
+    }
+    let mut old = Vec::new();
+    let first = place(rng, words);
+    let mut places = vec![first];
+    match rng.below(4) {
+        0 => places.push(place(rng, words)),
+        1 => places.push((first + 1).min(WORDS - 1)),
+        _ => {}
+    }
+    for at in places {
+        old.insert(0, (at, words[at]));
+        words[at] = word(rng, words, words[at]);
+    }
+    old
+}
+
+/// Takes changes back.
+pub fn undo(words: &mut [u32], old: &[(usize, u32)]) {
+    for &(at, word) in old {
+        words[at] = word;
+    }
+}

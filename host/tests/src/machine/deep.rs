@@ -1,0 +1,37 @@
+//! The deepest trees on a small stack.
+
+use super::trial::{Model, Trial};
+use super::Entries;
+use crate::report::Outcome;
+use files::shapes;
+
+/// The stack that the entry points get.
+const SMALL_STACK: usize = 1 << 20;
+
+/// Every regular shape at the greatest size: run, checked and looked into.
+pub fn outcome(side: &Entries) -> Outcome {
+    let made: Vec<(&str, Model)> =
+        shapes::ALL.iter().map(|(name, shape)| (*name, Model::new(&shape(4096)))).collect();
+    std::thread::scope(|scope| {
+        let thread = std::thread::Builder::new().stack_size(SMALL_STACK);
+        match thread.spawn_scoped(scope, || calls(side, &made)).map(|t| t.join()) {
+            Ok(Ok(outcome)) => outcome,
+            _ => Outcome { failed: made.len(), ..Outcome::default() },
+        }
+    })
+}
+
+/// The calls on each file.
+fn calls(side: &Entries, made: &[(&str, Model)]) -> Outcome {
+    let mut outcome = Outcome::default();
+    for (name, model) in made {
+        let mut trial = Trial::started(side, model, name.to_string());
+        for allowance in [1, 2, 300, 211, 1, 5_000] {
+            trial.run(allowance);
+            trial.memory_check();
+            trial.look_up(0);
+        }
+        outcome.add(trial.outcome);
+    }
+    outcome
+}

@@ -1,0 +1,85 @@
+//! States judged by hand, most of them reached by no run.
+
+use super::trial::{Model, Trial};
+use super::Entries;
+use crate::report::Outcome;
+use files::tree::*;
+use files::File;
+use reference::image::{encode_into, WORDS};
+use reference::machine::{Activation, Control, Frame, Ref, Running, State, Value};
+
+mod sample;
+
+/// A state with what the fit paragraph says of it.
+pub struct Case {
+    pub name: &'static str,
+    pub state: State,
+    pub fit: bool,
+}
+
+/// A state of one activation of main and then of others over it.
+fn over(control: Control, activations: Vec<Activation>) -> State {
+    State::Running(Running { control, activations })
+}
+
+/// An activation; frames from the top down, as the papers write them.
+fn act(function: usize, vars: &[Value], frames: &[Frame]) -> Activation {
+    let frames = frames.iter().rev().cloned().collect();
+    Activation { function, vars: vars.to_vec(), frames }
+}
+
+/// The file that the cases are about.
+fn sample_file() -> File {
+    file(&[sample::f0(), sample::f1(), sample::f2(), sample::f3(), sample::f4(), sample::f5()])
+}
+
+/// The reference's verdicts on the states themselves, and its run of the file.
+pub fn judged() -> Outcome {
+    let model = Model::new(&sample_file());
+    let mut outcome = Outcome::default();
+    for case in sample::cases() {
+        let got = model.judge.is_fit(&case.state);
+        outcome.same(|| case.name.to_string(), &model.file, case.fit, got);
+    }
+    let (_, end, steps) = model.after(10_000);
+    let expected = (reference::machine::Outcome::Value(3), 56);
+    outcome.same(|| "the sample's run".to_string(), &model.file, expected, (end, steps));
+    outcome
+}
+
+/// The verdicts of a side's entry points on the images.
+pub fn outcome(side: &Entries) -> Outcome {
+    let model = Model::new(&sample_file());
+    let mut outcome = Outcome::default();
+    for case in sample::cases() {
+        if case.fit {
+            let mut trial = Trial::new(side, &model, case.name.to_string(), case.state);
+            trial.memory_check();
+            (0..3).for_each(|x| trial.look_up(x));
+            for _ in 0..40 {
+                trial.run(1);
+            }
+            trial.memory_check();
+            outcome.add(trial.outcome);
+        } else if case.state.within_limits() {
+            outcome.add(refused(side, &model, &case));
+        }
+    }
+    outcome
+}
+
+/// An unfit image gives 16 and stays as it is.
+fn refused(side: &Entries, model: &Model, case: &Case) -> Outcome {
+    let mut outcome = Outcome::default();
+    let mut memory = vec![7; WORDS + 3];
+    encode_into(&case.state, &mut memory);
+    let before = memory.clone();
+    let run = (side.run)(&model.file, &mut memory, 5).err();
+    let checked = (side.memory_check)(&model.file, &memory);
+    let looked = (side.look_up)(&model.file, &memory, 0).err();
+    for got in [checked, run, looked] {
+        outcome.compare(|| case.name.to_string(), &model.file, Some((16, 0, 0)), got);
+    }
+    outcome.words(|| case.name.to_string(), &model.file, &before, &memory);
+    outcome
+}

@@ -1,0 +1,141 @@
+//! Programs with their outcomes and steps, counted by hand from the rules.
+
+use files::tree::*;
+use files::{shapes, File};
+use reference::machine::Outcome::{self, Abort, Arith, Full, Spent, Value};
+use reference::Refusal;
+
+/// A program with an allowance and what its run from the start must answer.
+pub struct Row {
+    pub name: &'static str,
+    pub file: File,
+    pub allowance: u64,
+    pub expected: (Outcome, u64),
+}
+
+/// A row with an allowance that does not bite.
+fn row(name: &'static str, file: File, outcome: Outcome, steps: u64) -> Row {
+    Row { name, file, allowance: 10_000, expected: (outcome, steps) }
+}
+
+/// A row of an operator on two ints in `return`.
+fn operator(name: &'static str, number: u8, l: i32, r: i32, result: i32) -> Row {
+    row(name, main(0, ret(op(number, int(l), int(r)))), Value(result), 7)
+}
+
+/// `return f()` with f `return f()`.
+pub fn calls_itself() -> File {
+    let f = || function(INT, 0, ret(call(1, vec![])));
+    file(&[f(), f()])
+}
+
+/// The paper's rows that run.
+pub fn table() -> Vec<Row> {
+    let zero = || main(0, ret(int(0)));
+    let sum = op(ADD, op(MUL, op(ADD, int(4), int(5)), int(10)), int(2));
+    let abort = seq(assert_that(boolean(false)), ret(int(0)));
+    let spent = Row { name: "return 0 in 3", file: zero(), allowance: 3, expected: (Spent, 3) };
+    vec![
+        row("return 0", zero(), Value(0), 4),
+        row("return ((4+5)×10)+2", main(0, ret(sum)), Value(92), 13),
+        row("return 1/0", main(0, ret(op(DIV, int(1), int(0)))), Arith, 5),
+        row("return −2^31 % −1", main(0, ret(op(REM, int(i32::MIN), int(-1)))), Arith, 5),
+        operator("return 2147483647+1", ADD, i32::MAX, 1, i32::MIN),
+        operator("return −7/2", DIV, -7, 2, -3),
+        operator("return −7%2", REM, -7, 2, -1),
+        operator("return 1<<33", SHL, 1, 33, 2),
+        operator("return −1>>1", SHR, -1, 1, -1),
+        row("seq(assert false, return 0)", main(0, abort), Abort, 4),
+        row("return f(), f: return f()", calls_itself(), Full, 64),
+        spent,
+    ]
+}
+
+/// The paper's rows that are refused.
+pub fn refused() -> Vec<(File, Refusal)> {
+    let one_side = if_else(boolean(true), ret(int(1)), assign(0, int(2)));
+    vec![
+        (main(0, nop()), (14, 1, 0)),
+        (main(1, decl(0, INT, ret(var(0)))), (13, 2, 0)),
+        (main(1, decl(0, INT, seq(one_side, ret(var(0))))), (13, 8, 0)),
+    ]
+}
+
+/// A loop of two turns whose body declares x1 and sets it in the first turn alone.
+pub fn declares_again() -> File {
+    let set = if_else(op(EQ, var(0), int(0)), assign(1, boolean(true)), nop());
+    let turn = seq(decl(1, BOOL, set), assign(0, op(ADD, var(0), int(1))));
+    let twice = seq(while_do(op(LT, var(0), int(2)), turn), ret(var(0)));
+    main(2, decl(0, INT, seq(assign(0, int(0)), twice)))
+}
+
+/// `while(true, nop)` before a return that is never reached.
+pub fn turns() -> File {
+    main(0, seq(while_do(boolean(true), nop()), ret(int(0))))
+}
+
+/// So many seqs nested in the first place.
+fn nested_seqs(count: usize) -> File {
+    let left = (0..count - 1).fold(nop(), |s, _| seq(s, nop()));
+    main(0, seq(left, ret(int(0))))
+}
+
+/// `if(c && 1/0 == 0, return 1, return 2)`.
+fn guarded(c: bool) -> File {
+    let right = op(EQ, op(DIV, int(1), int(0)), int(0));
+    main(0, if_else(and(boolean(c), right), ret(int(1)), ret(int(2))))
+}
+
+/// Eight constant arguments, of which the last is taken from the first.
+fn eight() -> File {
+    let arguments = (1..=8).map(int).collect();
+    let body = ret(op(SUB, var(0), var(7)));
+    file(&[function(INT, 0, ret(call(1, arguments))), taking(INT, 8, 0, 8, body)])
+}
+
+/// A parameter is assigned.
+fn assigned_parameter() -> File {
+    let body = seq(assign(0, op(ADD, var(0), int(1))), ret(var(0)));
+    file(&[function(INT, 0, ret(call(1, vec![int(4)]))), taking(INT, 1, 0, 1, body)])
+}
+
+/// A call of a function of nothing as a statement.
+fn procedure() -> File {
+    let body = seq(discard(call(1, vec![])), ret(int(7)));
+    file(&[function(INT, 0, body), function(NOTHING, 0, ret(nothing()))])
+}
+
+/// More runs.
+pub fn more() -> Vec<Row> {
+    let allowed = |name, file, allowance, expected| Row { name, file, allowance, expected };
+    vec![
+        operator("return 65536×65536", MUL, 65_536, 65_536, 0),
+        operator("return (2^31−1)×(2^31−1)", MUL, i32::MAX, i32::MAX, 1),
+        operator("return −2^31×−1", MUL, i32::MIN, -1, i32::MIN),
+        operator("return −2^31−1", SUB, i32::MIN, 1, i32::MAX),
+        operator("return 7/−2", DIV, 7, -2, -3),
+        operator("return 7%−2", REM, 7, -2, 1),
+        operator("return 5%−1", REM, 5, -1, 0),
+        operator("return 1<<−1", SHL, 1, -1, i32::MIN),
+        operator("return −8>>−31", SHR, -8, -31, -4),
+        operator("return −1^(2^31−1)", 9, -1, i32::MAX, i32::MIN),
+        row("return −2^31/−1", main(0, ret(op(DIV, int(i32::MIN), int(-1)))), Arith, 5),
+        row("a loop that declares again", declares_again(), Value(2), 69),
+        row("512 seqs nested left", nested_seqs(512), Value(0), 1_028),
+        row("513 seqs nested left", nested_seqs(513), Full, 513),
+        row("4,090 calls nested", shapes::calls(4096), Full, 513),
+        row("false && 1/0 == 0", guarded(false), Value(2), 8),
+        row("true && 1/0 == 0", guarded(true), Arith, 8),
+        row("eight arguments", eight(), Value(-7), 20),
+        row("an assigned parameter", assigned_parameter(), Value(5), 17),
+        row("main calls main", main(0, ret(call(0, vec![]))), Full, 64),
+        row("code after a return", main(0, seq(ret(int(1)), nop())), Value(1), 5),
+        row("a procedure", procedure(), Value(7), 11),
+        allowed("return 0 in 0", main(0, ret(int(0))), 0, (Spent, 0)),
+        allowed("return 0 in 4", main(0, ret(int(0))), 4, (Value(0), 4)),
+        allowed("return f() in 64", calls_itself(), 64, (Spent, 64)),
+        allowed("return f() in 65", calls_itself(), 65, (Full, 64)),
+        allowed("return f() without end", calls_itself(), u64::MAX, (Full, 64)),
+        allowed("while(true, nop) in 5,002", turns(), 5_002, (Spent, 5_002)),
+    ]
+}
