@@ -43,7 +43,7 @@ fn reads_empty(part: &[u8], set: VarSet, i: usize) -> bool
 }
 
 // The first read of the expression at node e of a variable that is not in the set.
-fn first_missing(part: &[u8], n: usize, e: usize, set: VarSet) -> Found
+pub fn first_missing(part: &[u8], n: usize, e: usize, set: VarSet) -> Found
     requires inside { ⌜ (12 * n ≤ length (now part)) × (e < n) ⌝ }
     requires known { ⌜ Known (now part) n ⌝ }
     ensures { λ r. ⌜ r ≡ missing (readsOf (now (part .entry)) e) (has (set .0)) ⌝ }

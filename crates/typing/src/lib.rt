@@ -54,7 +54,7 @@ pub fn operator_type(a: u8) -> u8
 }
 
 // The type of node i of function f's part, of n nodes.
-fn type_of(file: &[u8], f: usize, part: &[u8], n: usize, decls: &[usize; 64], i: usize) -> u8
+pub fn type_of(file: &[u8], f: usize, part: &[u8], n: usize, decls: &[usize; 64], i: usize) -> u8
     requires laid { ⌜ Laid (now file) × (f < functions (now file)) ⌝ }
     requires inside { ⌜ (12 * n ≤ length (now part)) × (i < n) ⌝ }
     requires known { ⌜ Known (now part) n × Calls (functions (now file)) (now part) n ⌝ }

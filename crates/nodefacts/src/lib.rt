@@ -1,0 +1,219 @@
+// Facts of one node of an accepted file: its sort, its type, what it reads, and how values flow through it.
+use flow::first_missing;
+use flow::flow_from;
+use flow::returns_from;
+use records::Found;
+use records::kind_at;
+use records::prior;
+use store::Ref;
+use varset::VarSet;
+ghost use mathlib.Core.Path.{_≡_};
+ghost use mathlib.Core.Bool.{true, _&&_};
+ghost use Prim.Native.Nat.{ℕ, _*_, _≤_, _<_};
+ghost use lib.Dec.{leb, ltb};
+ghost use lib.ListN.{length};
+ghost use Rattle.varset.specs.Sets.{has};
+ghost use Rattle.records.specs.Fields.{varsOf, kindAt};
+ghost use Rattle.language.specs.Statements.{statementAt};
+ghost use Rattle.language.specs.Flow.{leaves, returns};
+ghost use Rattle.language.specs.Known.{Known};
+ghost use Rattle.scopes.specs.Counts.{Decls};
+ghost use Rattle.semantics.specs.Program.{varType, typeN};
+ghost use Rattle.semantics.specs.Fit.{isConst};
+ghost use Rattle.semantics.specs.File.{unrolled, looped, programOf};
+ghost use Rattle.semantics.specs.Test.{clear, exprIn, stmtIn, reads, ok};
+ghost use Rattle.store.specs.Meaning.{refIs};
+ghost use Rattle.nodefacts.specs.Part.{Part};
+ghost use Rattle.nodefacts.specs.Goes.{Goes};
+
+// Whether every read of a statement finds a value, and the variables that have a value after it.
+pub struct Passage {
+    pub ok: bool,
+    pub left: VarSet,
+}
+
+// Whether a search found nothing.
+fn is_clear(found: Found) -> bool
+    ensures { λ r. ⌜ r ≡ clear found ⌝ }
+{
+    match found {
+        Found::At(_, _) => false,
+        Found::Nothing => true,
+    }
+}
+
+// Whether node i is one of the part's, of a kind from low to high.
+fn is_among(part: &[u8], n: usize, i: u32, low: u8, high: u8) -> bool
+    requires { ⌜ 12 * n ≤ length (now part) ⌝ }
+    ensures { λ r. ⌜ r ≡ ltb i n && (leb low (kindAt (now (part .entry)) i) && leb (kindAt (now (part .entry)) i) high) ⌝ }
+{
+    let at = i as usize;
+    if n <= at {
+        return false;
+    }
+    let kind = kind_at(part, at);
+    (low <= kind) & (kind <= high)
+}
+
+// The decl of each variable of function f's part.
+pub fn decls_of(file: &[u8], f: usize, part: &[u8], n: usize) -> [usize; 64]
+    requires { ⌜ Part (now file) f (now part) n ⌝ }
+    ensures { λ r. ⌜ Decls (now (part .entry)) n r ⌝ }
+{
+    scopes::decl_table(part, n)
+}
+
+// The type of variable x of function f.
+pub fn variable_type(
+    file: &[u8],
+    f: usize,
+    part: &[u8],
+    n: usize,
+    decls: &[usize; 64],
+    x: u32,
+) -> u8
+    requires { ⌜ Part (now file) f (now part) n × (Decls (now part) n (now decls)) × (x < varsOf (now file) f) ⌝ }
+    ensures { λ r. ⌜ r ≡ varType (programOf (now (file .entry)) .fun f) x ⌝ }
+{
+    typing::var_type(file, f, part, n, decls, x)
+}
+
+// Whether node i is an expression of function f.
+pub fn is_expression(file: &[u8], f: usize, part: &[u8], n: usize, i: u32) -> bool
+    requires { ⌜ Part (now file) f (now part) n ⌝ }
+    ensures { λ r. ⌜ r ≡ exprIn (programOf (now (file .entry))) f i ⌝ }
+{
+    let at = i as usize;
+    if n <= at {
+        return false;
+    }
+    let kind = kind_at(part, at);
+    (kind < 6) | (kind == 15)
+}
+
+// Whether the expression at node i is a constant.
+pub fn is_constant(file: &[u8], f: usize, part: &[u8], n: usize, i: u32) -> bool
+    requires { ⌜ Part (now file) f (now part) n × (exprIn (programOf (now file)) f i ≡ true) ⌝ }
+    ensures { λ r. ⌜ r ≡ isConst (programOf (now (file .entry)) .look f i) ⌝ }
+{
+    let kind = kind_at(part, i as usize);
+    (kind < 2) | (kind == 15)
+}
+
+// The type of the expression at node i.
+pub fn expression_type(
+    file: &[u8],
+    f: usize,
+    part: &[u8],
+    n: usize,
+    decls: &[usize; 64],
+    i: u32,
+) -> u8
+    requires { ⌜ Part (now file) f (now part) n × (Decls (now part) n (now decls)) × (exprIn (programOf (now file)) f i ≡ true) ⌝ }
+    ensures { λ r. ⌜ r ≡ typeN (programOf (now (file .entry))) f i ⌝ }
+{
+    typing::type_of(file, f, part, n, decls, i as usize)
+}
+
+// Whether every variable that the expression at node i reads is in the set.
+pub fn reads_held(file: &[u8], f: usize, part: &[u8], n: usize, i: u32, set: VarSet) -> bool
+    requires { ⌜ Part (now file) f (now part) n × (exprIn (programOf (now file)) f i ≡ true) ⌝ }
+    ensures { λ r. ⌜ r ≡ reads (programOf (now (file .entry))) f i (has (set .0)) ⌝ }
+{
+    is_clear(first_missing(part, n, i as usize, set))
+}
+
+// Whether a reference names a statement of function f.
+pub fn is_statement(file: &[u8], f: usize, part: &[u8], n: usize, r: Ref) -> bool
+    requires { ⌜ Part (now file) f (now part) n ⌝ }
+    ensures { λ b. ⌜ b ≡ stmtIn (programOf (now (file .entry))) f (refIs r) ⌝ }
+{
+    match r {
+        Ref::Nop => true,
+        Ref::Node(i) => is_among(part, n, i, 7, 14),
+        Ref::IfOf(w) => is_among(part, n, w, 11, 11),
+        Ref::SeqOf(w) => is_among(part, n, w, 11, 11),
+    }
+}
+
+// How values flow through the statement at node i.
+fn node_through(part: &[u8], n: usize, i: usize, set: VarSet) -> Passage
+    requires inside { ⌜ (12 * n ≤ length (now part)) × (i < n) ⌝ }
+    requires known { ⌜ Known (now part) n ⌝ }
+    ensures { λ r. ⌜ Goes (statementAt (now (part .entry)) i) (has (set .0)) r ⌝ }
+{
+    let flow = flow_from(part, n, i, set);
+    let left = flow.left;
+    let found = flow.found;
+    Passage {
+        ok: is_clear(found),
+        left,
+    }
+}
+
+// How values flow through the seq of the while at node w: its body, then the while.
+fn seq_through(part: &[u8], n: usize, w: usize, set: VarSet) -> Passage
+    requires inside { ⌜ (12 * n ≤ length (now part)) × (w < n) ⌝ }
+    requires known { ⌜ Known (now part) n × (kindAt (now part) w ≡ 11) ⌝ }
+    ensures { λ r. ⌜ Goes (looped (statementAt (now (part .entry)) w)) (has (set .0)) r ⌝ }
+{
+    let body = node_through(part, n, w - 1, set);
+    let first = body.ok;
+    let between = body.left;
+    let again = node_through(part, n, w, between);
+    let second = again.ok;
+    let left = again.left;
+    Passage {
+        ok: first & second,
+        left,
+    }
+}
+
+// How values flow through the if of the while at node w: its condition, then the seq or nothing.
+fn if_through(part: &[u8], n: usize, w: usize, set: VarSet) -> Passage
+    requires inside { ⌜ (12 * n ≤ length (now part)) × (w < n) ⌝ }
+    requires known { ⌜ Known (now part) n × (kindAt (now part) w ≡ 11) ⌝ }
+    ensures { λ r. ⌜ Goes (unrolled (statementAt (now (part .entry)) w)) (has (set .0)) r ⌝ }
+{
+    let held = is_clear(first_missing(part, n, prior(part, w - 1), set));
+    let entered = seq_through(part, n, w, set);
+    let inner = entered.ok;
+    let left = entered.left;
+    let kept = left.meet(set);
+    Passage {
+        ok: held & inner,
+        left: kept,
+    }
+}
+
+// How values flow through a statement, begun with the set.
+pub fn through(file: &[u8], f: usize, part: &[u8], n: usize, r: Ref, set: VarSet) -> Passage
+    requires { ⌜ Part (now file) f (now part) n × (stmtIn (programOf (now file)) f (refIs r) ≡ true) ⌝ }
+    ensures { λ b. ⌜ (b .ok ≡ ok (programOf (now (file .entry))) f (refIs r) (has (set .0))) × (has (b .left .0) ≡ leaves (programOf (now (file .entry)) .stmt f (refIs r)) (has (set .0))) ⌝ }
+{
+    match r {
+        Ref::Nop => Passage {
+            ok: true,
+            left: set,
+        },
+        Ref::Node(i) => node_through(part, n, i as usize, set),
+        Ref::IfOf(w) => if_through(part, n, w as usize, set),
+        Ref::SeqOf(w) => seq_through(part, n, w as usize, set),
+    }
+}
+
+// Whether a statement returns.
+pub fn returning(file: &[u8], f: usize, part: &[u8], n: usize, r: Ref) -> bool
+    requires { ⌜ Part (now file) f (now part) n × (stmtIn (programOf (now file)) f (refIs r) ≡ true) ⌝ }
+    ensures { λ b. ⌜ b ≡ returns (programOf (now (file .entry)) .stmt f (refIs r)) ⌝ }
+{
+    match r {
+        Ref::Nop => false,
+        Ref::Node(i) => returns_from(part, n, i as usize),
+        Ref::IfOf(_) => false,
+        Ref::SeqOf(w) => {
+            let body = w as usize - 1;
+            returns_from(part, n, body)
+        }
+    }
+}

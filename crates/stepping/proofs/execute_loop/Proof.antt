@@ -1,0 +1,89 @@
+use borrow.Author.Needs.{needs}
+use Rattle.stepping.proofs.execute_loop.Statement.{statement}
+use Rattle.stepping.proofs.execute_loop.Tie as tie
+use Rattle.stepping.proofs.execute_loop.Reads as reads
+use Rattle.stepping.proofs.execute_loop.Lts as lts
+use Rattle.records.proofs.prior.Reads as prior-reads
+use Rattle.stepping.proofs.ref_at.Reads as ref-at-reads
+use Rattle.transitions.proofs.lay.Reads as lay-reads
+use Rattle.transitions.proofs.reach.Reads as reach-reads
+
+-- src/lib.rt:246:16
+sub-last : tie.Need-sub-last
+sub-last c = search needs
+
+-- src/lib.rt:248:46
+mul-lay : tie.Need-mul-lay
+mul-lay c = search needs
+
+-- src/lib.rt:248:42
+add-lay : tie.Need-add-lay
+add-lay c = search needs
+
+-- src/lib.rt:248:70
+ref-at-requires : tie.Need-ref-at-requires
+ref-at-requires c κs = search needs
+
+-- src/lib.rt:248:9
+lay-requires : tie.Need-lay-requires
+lay-requires c κs = search needs
+
+-- src/lib.rt:248:9
+same-length : tie.Need-same-length
+same-length c = search needs
+
+-- src/lib.rt:248:9
+returns : tie.Need-returns
+returns c = ?
+
+-- src/lib.rt:250:9
+prior-requires : tie.Need-prior-requires
+prior-requires c κs = search needs
+
+-- src/lib.rt:251:35
+mul-lay-2 : tie.Need-mul-lay-2
+mul-lay-2 c = search needs
+
+-- src/lib.rt:251:31
+add-lay-2 : tie.Need-add-lay-2
+add-lay-2 c = search needs
+
+-- src/lib.rt:251:70
+cast-reach : tie.Need-cast-reach
+cast-reach c = search needs
+
+-- src/lib.rt:251:45
+reach-requires : tie.Need-reach-requires
+reach-requires c κs = search needs
+
+-- src/lib.rt:251:5
+lay-requires-2 : tie.Need-lay-requires-2
+lay-requires-2 c κs = search needs
+
+-- src/lib.rt:242:1
+same-length-2 : tie.Need-same-length-2
+same-length-2 c = search needs
+
+-- src/lib.rt:242:1
+returns-2 : tie.Need-returns-2
+returns-2 c = ?
+
+pub execute-loop-spec : {M : Type 1} → statement M
+execute-loop-spec =
+    tie.close
+    (tie.spec
+    sub-last
+    mul-lay
+    add-lay
+    ref-at-requires
+    lay-requires
+    same-length
+    returns
+    prior-requires
+    mul-lay-2
+    add-lay-2
+    cast-reach
+    reach-requires
+    lay-requires-2
+    same-length-2
+    returns-2)
