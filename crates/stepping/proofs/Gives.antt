@@ -55,7 +55,7 @@ module _ (s : List ℕ) (passed : checkOf s ≡ accepted) (f : ℕ) (η : List V
       both (w ∷ []) e k =
           let a = int-typed w (sym (ap (λ (l : List Ty). getD l 0 0) e)) in
           let b = int-typed v (sym (ap (λ (l : List Ty). getD l 1 0) e)) in
-          record { first = a .word; second = b .word; stored = rw (a .is); hand = b .is; known = k }
+          record { first = a .word; second = b .word; stored = ap (λ (x : Value). x ∷ []) (a .is); hand = b .is; known = k }
       both (w ∷ (x ∷ vs)) e k = absurd (let z : 2 ≡ length (map typeV (w ∷ x ∷ vs) ++ (typeV v ∷ [])) = ap length e in omega (arith, length-append (map typeV vs) (typeV v ∷ [])))
 
   -- a call's arguments
@@ -65,7 +65,8 @@ module _ (s : List ℕ) (passed : checkOf s ≡ accepted) (f : ℕ) (η : List V
   arguments g vs ns fit none =
       let t = fit .proper .frames in
       let k : g < functions s = t .3 in
-      let e : length (funOf s g .params) ≡ length vs + 1 = ap length (t .0 ∙ rw none) ∙ simp (length-append, length-map) in
+      let q : funOf s g .params ≡ map typeV vs ++ (typeV v ∷ []) = t .0 ∙ rw none in
+      let e : length (funOf s g .params) ≡ length vs + 1 = ap length q ∙ simp (length-append, length-map) in
       let p : paramsOf s g ≡ suc (length vs) = sym (types-length (types.varType s g (partOf s g) (countOf s g)) (paramsOf s g) 0) ∙ e ∙ omega arith in
       let w = function s (accepted-is s passed) g k in
       (k, p, omega (arith, p, w .least), omega (arith, p, w .params))

@@ -1,3 +1,14 @@
 pub mod Sorts
 pub mod Leaves
 pub mod Operations
+pub mod Levels
+pub mod Facts
+pub mod Views
+pub mod Opens
+pub mod Forms
+pub mod Gives
+pub mod Loops
+pub mod Executions
+pub mod Given
+pub mod Gave
+pub mod Standing

@@ -49,3 +49,9 @@ int-inj {m} {n} e = ap word e
     word values.nothing = 0
     word (values.int k) = k
     word (values.truth b) = 0
+
+pub is-truth : (v : Value) → values.typeV (valueIs v) ≡ values.tBool → IsTruth v
+unfolding valueIs
+is-truth Nothing e = absurd (let z : _≡_ {A = ℕ} 0 2 = e in omega arith)
+is-truth (Int n) e = absurd (let z : _≡_ {A = ℕ} 1 2 = e in omega arith)
+is-truth (Truth b) e = tt

@@ -1,9 +1,14 @@
 -- A fit state at which a run stands, and what its step comes to.
 use mathlib.Core.Path.{_≡_}
+use mathlib.Core.Bool.{Bool, true, false}
 use mathlib.Core.List.{List, _++_}
-use Prim.Native.Nat.{ℕ}
+use Prim.Native.Nat.{ℕ, _+_, _*_, _≤_, _<_}
+use lib.ListN.{length}
+use Rattle.records.specs.Fields.{functions, kindAt, aAt, bAt}
+use Rattle.records.specs.Children.{arityAt}
 use Rattle.language.specs.Check.{accepted, checkOf}
 use Rattle.semantics.specs.Values.{Value}
+use Rattle.semantics.specs.Program.{Ref, node, ifOf, seqOf}
 use Rattle.semantics.specs.Machine.{Frame, Control, Saved, calm, running}
 use Rattle.semantics.specs.Next.{Move, stuck, goes}
 use Rattle.semantics.specs.Fit.{Fit}
@@ -25,6 +30,31 @@ abbrev pub IsTruth : code.Value → Type 0
 IsTruth Nothing = ⊥
 IsTruth (Int n) = ⊥
 IsTruth (Truth b) = Unit {0}
+
+-- node i of a part t of the file s stands in it after its children, and its fields name a variable or a function
+pub record Node (s t : List ℕ) (i : ℕ) : Type 0 where
+  pub inside : 12 * i + 12 ≤ length t
+  pub few : i < 4096
+  pub child : 0 < arityAt t i → 0 < i
+  pub variable : kindAt t i ≡ 2 → bAt t i < 64
+  pub arguments : kindAt t i ≡ 5 → aAt t i ≤ 8
+  pub callee : kindAt t i ≡ 5 → bAt t i < functions s
+
+-- the seq in the if that a while equals, or that if
+abbrev pub inLoop : Bool → ℕ → Ref
+inLoop true w = seqOf w
+inLoop false w = ifOf w
+
+-- the node of a reference stands in a part t after its children
+abbrev pub Inside : List ℕ → ℕ → Type 0
+Inside t i = (12 * i + 12 ≤ length t) × (i < 4096) × (0 < i)
+
+-- the statement of a reference stands in a part t
+abbrev pub Executes : List ℕ → Ref → Type 0
+Executes t (node i) = Inside t i × (7 ≤ kindAt t i) × (kindAt t i ≤ 14) × (kindAt t i ≡ 9 → bAt t i < 64)
+Executes t Ref.nop = Unit {0}
+Executes t (ifOf w) = Inside t w × (kindAt t w ≡ 11)
+Executes t (seqOf w) = Inside t w × (kindAt t w ≡ 11)
 
 -- the file is accepted, and the memory l and the head h hold a fit state with the control c
 pub record Stands (s table : List ℕ) (c : Control) (h : Head) (l : List ℕ) : Type 0 where

@@ -15,19 +15,22 @@ ghost use mathlib.Core.Path.{_≡_};
 ghost use mathlib.Core.List.{List, [], _∷_, _++_};
 ghost use Prim.Native.Nat.{ℕ, suc, _+_, _*_, _-_, _≤_, _<_};
 ghost use lib.ListN.{length, getD};
+ghost use Rattle.records.specs.Fields.{paramsOf, kindAt, aAt, bAt};
 ghost use Rattle.records.specs.Parts.{partOf};
+ghost use Rattle.language.specs.Check.{accepted, checkOf};
 ghost use Rattle.semantics.specs.Values as values;
 ghost use Rattle.semantics.specs.Program as program;
 ghost use Rattle.semantics.specs.Machine as machine;
 ghost use Rattle.semantics.specs.Machine.{calm, Frame, Saved, running, reachL};
 ghost use Rattle.semantics.specs.Next as next;
 ghost use Rattle.semantics.specs.Fit.{Fit};
-ghost use Rattle.semantics.specs.File.{lookAt, programOf};
+ghost use Rattle.semantics.specs.File.{refAt, lookAt, formAt, seeAt, programOf};
+ghost use Rattle.image.specs.Layout.{refWord};
 ghost use Rattle.image.specs.Image.{savedFrames};
 ghost use Rattle.image.specs.Core.{core};
 ghost use Rattle.store.specs.Meaning.{valueIs, refIs, controlIs};
 ghost use Rattle.transitions.specs.Comes.{Tells, Bounds, Starts, Called, Cleared, Comes};
-ghost use Rattle.stepping.specs.Done.{IsInt, IsTruth, Stands, Done};
+ghost use Rattle.stepping.specs.Done.{IsInt, IsTruth, Node, inLoop, Executes, Stands, Done};
 
 // What nobody can ask for.
 fn unreachable() -> Stepped
@@ -121,4 +124,239 @@ fn depart(file: &[u8], starts: &[usize; 128], m: &mut [u32], h: Head, v: Value) 
         return transitions::leave_main(m, h, word);
     }
     transitions::leave(file, starts, m, h, v)
+}
+
+// The statement at node i; nop is one and the same.
+fn ref_at(part: &[u8], i: usize) -> Ref
+    requires { ⌜ (12 * i + 12 ≤ length (now part)) × (i < 4096) ⌝ }
+    ensures { λ r. ⌜ refIs r ≡ refAt (now (part .entry)) i ⌝ }
+{
+    if kind_at(part, i) == 6 {
+        Ref::Nop
+    } else {
+        Ref::Node(i as u32)
+    }
+}
+
+// Its word.
+fn ref_word_at(part: &[u8], i: usize) -> u32
+    requires { ⌜ (12 * i + 12 ≤ length (now part)) × (i < 4096) ⌝ }
+    ensures { λ r. ⌜ r ≡ refWord (refAt (now (part .entry)) i) ⌝ }
+{
+    if kind_at(part, i) == 6 {
+        0
+    } else {
+        1 + 3 * i as u32
+    }
+}
+
+// Evaluates the call at node i.
+fn call(
+    file: &[u8],
+    starts: &[usize; 128],
+    part: &[u8],
+    m: &mut [u32],
+    h: Head,
+    i: usize,
+) -> Stepped
+    requires { ⌜ Bounds h (now m) × Starts (now file) (now starts) × Node (now file) (now part) i × (kindAt (now part) i ≡ 5) ⌝ }
+    ensures { λ r. ⌜ ((f : ℕ) (η : List values.Value) (K : List Frame) (A : List Saved) (R : List ℕ) → now (m .entry) ≡ core f η K A ++ R → Tells (now (file .entry)) h f K A → now (part .entry) ≡ partOf (now (file .entry)) f → paramsOf (now (file .entry)) (bAt (now (part .entry)) i) ≡ aAt (now (part .entry)) i → Done (now (file .entry)) r (now (m .entry)) (now (m .exit)) R (next.opens (programOf (now (file .entry))) (lookAt (now (part .entry)) i) calm f η K A)) ⌝ }
+{
+    let g = b_at(part, i);
+    let k = wide(a_at(part, i));
+    if k == 0 {
+        return transitions::enter_none(file, starts, m, h, g);
+    }
+    transitions::gather(part, m, h, 2, g, k, i - 1)
+}
+
+// Evaluates the expression at node i.
+fn open(file: &[u8], starts: &[usize; 128], part: &[u8], m: &mut [u32], h: Head, i: u32) -> Stepped
+    requires { ⌜ Bounds h (now m) × Starts (now file) (now starts) × Node (now file) (now part) i × (2 ≤ kindAt (now part) i) × (kindAt (now part) i ≤ 5) ⌝ }
+    ensures { λ r. ⌜ ((f : ℕ) (η : List values.Value) (K : List Frame) (A : List Saved) (R : List ℕ) → now (m .entry) ≡ core f η K A ++ R → Tells (now (file .entry)) h f K A → checkOf (now (file .entry)) ≡ accepted → now (part .entry) ≡ partOf (now (file .entry)) f → Fit (programOf (now (file .entry))) (running (machine.eval i) calm f η K A) → Done (now (file .entry)) r (now (m .entry)) (now (m .exit)) R (next.opens (programOf (now (file .entry))) (lookAt (now (part .entry)) i) calm f η K A)) ⌝ }
+{
+    let at = i as usize;
+    let kind = kind_at(part, at);
+    match kind {
+        2 => {
+            let x = b_at(part, at) as usize;
+            let callers = h.callers;
+            let v = callstack::variable(m, callers, x);
+            Stepped::Went(Control::Val(v), h)
+        }
+        3 => transitions::gather(part, m, h, 1, wide(a_at(part, at)), 2, at - 1),
+        4 => {
+            let last = at - 1;
+            let first = prior(part, last);
+            transitions::lay(
+                m,
+                h,
+                3,
+                last as u32,
+                0,
+                transitions::reach(part, first as u32),
+            )
+        }
+        5 => call(file, starts, part, m, h, at),
+        _ => unreachable(),
+    }
+}
+
+// Goes on with the statement that waits.
+fn resume(m: &mut [u32], h: Head) -> Stepped
+    requires { ⌜ Bounds h (now m) × (1 ≤ h .frames) ⌝ }
+    ensures { λ r. ⌜ ((s : List ℕ) (f : ℕ) (η : List values.Value) (fr : Frame) (K : List Frame) (A : List Saved) (R : List ℕ) → now (m .entry) ≡ core f η (fr ∷ K) A ++ R → Tells s h f (fr ∷ K) A → Done s r (now (m .entry)) (now (m .exit)) R (next.passes calm f η (fr ∷ K) A)) ⌝ }
+{
+    let frames = h.frames - 1;
+    let top = topframe::top_frame(m, h.under + frames);
+    match top {
+        Top::Wait(r) => transitions::take_off(m, h, Control::Exec(r)),
+        Top::Operator(o, y, z) => Stepped::Full,
+        Top::Call(g, y, z) => Stepped::Full,
+        Top::And(l) => Stepped::Full,
+        Top::Store(x) => Stepped::Full,
+        Top::Branch(a, b) => Stepped::Full,
+        Top::Leave => Stepped::Full,
+        Top::Assert => Stepped::Full,
+        Top::Discard => Stepped::Full,
+    }
+}
+
+// Executes the statement at node i.
+fn execute_node(part: &[u8], m: &mut [u32], h: Head, i: u32) -> Stepped
+    requires { ⌜ Bounds h (now m) × (12 * i + 12 ≤ length (now part)) × (i < 4096) × (0 < i) × (7 ≤ kindAt (now part) i) × (kindAt (now part) i ≤ 14) ⌝ }
+    requires variable { ⌜ (kindAt (now part) i ≡ 9 → bAt (now part) i < 64) ⌝ }
+    ensures { λ r. ⌜ ((s : List ℕ) (f : ℕ) (η : List values.Value) (K : List Frame) (A : List Saved) (R : List ℕ) → now (m .entry) ≡ core f η K A ++ R → Tells s h f K A → checkOf s ≡ accepted → now (part .entry) ≡ partOf s f → Fit (programOf s) (running (machine.exec (program.node i)) calm f η K A) → Done s r (now (m .entry)) (now (m .exit)) R (next.runs (programOf s) (formAt (now (part .entry)) i) calm f η K A)) ⌝ }
+{
+    let at = i as usize;
+    let last = at - 1;
+    let kind = kind_at(part, at);
+    match kind {
+        7 => {
+            let first = prior(part, last);
+            let word = ref_word_at(part, last);
+            transitions::lay(m, h, 4, word, 0, Control::Exec(ref_at(part, first)))
+        }
+        8 => transitions::lay(
+            m,
+            h,
+            5,
+            b_at(part, at),
+            0,
+            transitions::reach(part, last as u32),
+        ),
+        9 => transitions::put(
+            m,
+            h,
+            b_at(part, at),
+            Value::Nothing,
+            Control::Exec(ref_at(part, last)),
+        ),
+        10 => {
+            let first = prior(part, last);
+            let condition = prior(part, first);
+            let x = ref_word_at(part, first);
+            let y = ref_word_at(part, last);
+            transitions::lay(m, h, 6, x, y, transitions::reach(part, condition as u32))
+        }
+        11 => Stepped::Went(Control::Exec(Ref::IfOf(i)), h),
+        12..=14 => transitions::lay(
+            m,
+            h,
+            wide(kind) - 5,
+            0,
+            0,
+            transitions::reach(part, last as u32),
+        ),
+        _ => unreachable(),
+    }
+}
+
+// Executes the if that the while at node w equals, or the seq in it.
+fn execute_loop(part: &[u8], m: &mut [u32], h: Head, w: u32, inner: bool) -> Stepped
+    requires { ⌜ Bounds h (now m) × (12 * w + 12 ≤ length (now part)) × (w < 4096) × (0 < w) ⌝ }
+    ensures { λ r. ⌜ ((s : List ℕ) (f : ℕ) (η : List values.Value) (K : List Frame) (A : List Saved) (R : List ℕ) → now (m .entry) ≡ core f η K A ++ R → Tells s h f K A → now (part .entry) ≡ partOf s f → kindAt (now (part .entry)) w ≡ 11 → Done s r (now (m .entry)) (now (m .exit)) R (next.runs (programOf s) (seeAt (now (part .entry)) (inLoop inner w)) calm f η K A)) ⌝ }
+{
+    let last = w as usize - 1;
+    if inner {
+        return transitions::lay(m, h, 4, 1 + 3 * w, 0, Control::Exec(ref_at(part, last)));
+    }
+    let condition = prior(part, last);
+    transitions::lay(
+        m,
+        h,
+        6,
+        3 + 3 * w,
+        0,
+        transitions::reach(part, condition as u32),
+    )
+}
+
+// Executes a statement.
+fn execute(part: &[u8], m: &mut [u32], h: Head, r: Ref) -> Stepped
+    requires { ⌜ Bounds h (now m) × Executes (now part) (refIs r) ⌝ }
+    requires waits { ⌜ (refIs r ≡ program.Ref.nop → 1 ≤ h .frames) ⌝ }
+    ensures { λ a. ⌜ ((s : List ℕ) (f : ℕ) (η : List values.Value) (K : List Frame) (A : List Saved) (R : List ℕ) → now (m .entry) ≡ core f η K A ++ R → Tells s h f K A → checkOf s ≡ accepted → now (part .entry) ≡ partOf s f → Fit (programOf s) (running (machine.exec (refIs r)) calm f η K A) → Done s a (now (m .entry)) (now (m .exit)) R (next.runs (programOf s) (seeAt (now (part .entry)) (refIs r)) calm f η K A)) ⌝ }
+{
+    match r {
+        Ref::Nop => resume(m, h),
+        Ref::Node(i) => execute_node(part, m, h, i),
+        Ref::IfOf(w) => execute_loop(part, m, h, w, false),
+        Ref::SeqOf(w) => execute_loop(part, m, h, w, true),
+    }
+}
+
+// Gives a value to the top frame.
+fn give(
+    file: &[u8],
+    starts: &[usize; 128],
+    part: &[u8],
+    m: &mut [u32],
+    h: Head,
+    v: Value,
+) -> Stepped
+    requires { ⌜ Stands (now file) (now starts) (machine.val (valueIs v)) h (now m) × (now part ≡ partOf (now file) (h .function)) × (16384 ≤ length (now m)) ⌝ }
+    ensures { λ r. ⌜ ((f : ℕ) (η : List values.Value) (fr : Frame) (K : List Frame) (A : List Saved) (R : List ℕ) → now (m .entry) ≡ core f η (fr ∷ K) A ++ R → Tells (now (file .entry)) h f (fr ∷ K) A → Fit (programOf (now (file .entry))) (running (machine.val (valueIs v)) calm f η (fr ∷ K) A) → Done (now (file .entry)) r (now (m .entry)) (now (m .exit)) R (next.give (programOf (now (file .entry))) (valueIs v) calm f η (fr ∷ K) A)) ⌝ }
+{
+    let frames = h.frames - 1;
+    let top = topframe::top_frame(m, h.under + frames);
+    match top {
+        Top::Operator(o, y, z) => {
+            if z == 0 {
+                return operate(file, m, h, o, v);
+            }
+            next_operand(part, m, h, y, z, v)
+        }
+        Top::Call(g, y, z) => {
+            if z == 0 {
+                return transitions::enter(file, starts, m, h, g, y as usize, v);
+            }
+            next_operand(part, m, h, y, z, v)
+        }
+        Top::And(l) => {
+            let c = transitions::reach(part, l);
+            choose(m, h, v, c, Control::Val(Value::Truth(false)))
+        }
+        Top::Wait(r) => Stepped::Full,
+        Top::Store(x) => transitions::assign(m, h, x, v),
+        Top::Branch(a, b) => choose(m, h, v, Control::Exec(a), Control::Exec(b)),
+        Top::Leave => depart(file, starts, m, h, v),
+        Top::Assert => affirm(m, h, v),
+        Top::Discard => transitions::take_off(m, h, Control::Exec(Ref::Nop)),
+    }
+}
+
+// One step of a running state: the control and the head are handed on, and the rest is in the memory.
+pub fn step(file: &[u8], starts: &[usize; 128], m: &mut [u32], c: Control, h: Head) -> Stepped
+    requires { ⌜ Stands (now file) (now starts) (controlIs c) h (now m) × (16384 ≤ length (now m)) ⌝ }
+    ensures { λ r. ⌜ ((f : ℕ) (η : List values.Value) (K : List Frame) (A : List Saved) (R : List ℕ) → now (m .entry) ≡ core f η K A ++ R → Tells (now (file .entry)) h f K A → Fit (programOf (now (file .entry))) (running (controlIs c) calm f η K A) → Done (now (file .entry)) r (now (m .entry)) (now (m .exit)) R (next.next (programOf (now (file .entry))) (running (controlIs c) calm f η K A))) ⌝ }
+{
+    let a = h.start;
+    let e = a + 12 * h.count;
+    let part = &file[a..e];
+    match c {
+        Control::Val(v) => give(file, starts, part, m, h, v),
+        Control::Eval(i) => open(file, starts, part, m, h, i),
+        Control::Exec(r) => execute(part, m, h, r),
+    }
 }

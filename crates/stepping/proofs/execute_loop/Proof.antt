@@ -1,3 +1,10 @@
+use mathlib.Core.Path.{_≡_, refl, sym, ap, _∙_}
+use Rattle.semantics.specs.Program.{Ref, node, seqOf}
+use Rattle.semantics.specs.Machine.{wait, branch}
+use Rattle.semantics.specs.File.{programOf}
+use Rattle.image.specs.Layout.{refWord, frameWords, block}
+use Rattle.store.specs.Meaning.{controlIs}
+use Rattle.stepping.proofs.Loops.{see-if, see-seq}
 use borrow.Author.Needs.{needs}
 use Rattle.stepping.proofs.execute_loop.Statement.{statement}
 use Rattle.stepping.proofs.execute_loop.Tie as tie
@@ -34,7 +41,10 @@ same-length c = search needs
 
 -- src/lib.rt:248:9
 returns : tie.Need-returns
-returns c = ?
+unfolding controlIs refWord frameWords block
+returns c s f η K A R e t part k =
+    let b = c .before .before .before .before .before .before .before .before in
+    rw (c .before .before .before .before .before .if1 .taken, see-seq _ _ (b .pre .3) k, ← (c .before .before .before .ref-at .ensures)) (c .before .before .lay .ensures s f η (wait (node _)) K A R e t refl)
 
 -- src/lib.rt:250:9
 prior-requires : tie.Need-prior-requires
@@ -66,7 +76,10 @@ same-length-2 c = search needs
 
 -- src/lib.rt:242:1
 returns-2 : tie.Need-returns-2
-returns-2 c = ?
+unfolding programOf refWord frameWords block
+returns-2 c s f η K A R e t part k =
+    let b = c .before .before .before .before .before .before .before .before .before in
+    rw (c .before .before .before .before .before .before .if1 .left, see-if _ _ (b .pre .3) k, ← part, ← (c .before .before .before .before .before .prior .ensures), ← (c .before .before .before .reach .ensures)) (c .before .before .lay2 .ensures s f η (branch (seqOf _) Ref.nop) K A R e t refl)
 
 pub execute-loop-spec : {M : Type 1} → statement M
 execute-loop-spec =

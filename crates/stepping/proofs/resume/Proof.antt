@@ -146,7 +146,7 @@ unfolding controlIs
 returns-7 c s f η fr K A R e t =
     let b = c .before .before .before .before .before .before .before in
     let v = c .before .before .top-frame .ensures f η fr K A R e (omega (arith, t .callers, b .pre .0 .1)) (counted-under t (b .args .h .frames - 1) (omega (arith, b .pre .1))) in
-    rw (is-leave _ fr v  (c .enum-told .given .1)) tt
+    rw (is-leave _ fr v (c .enum-told .given .1)) tt
 
 -- src/lib.rt:191:1
 same-length-8 : tie.Need-same-length-8
@@ -158,7 +158,7 @@ unfolding controlIs
 returns-8 c s f η fr K A R e t =
     let b = c .before .before .before .before .before .before .before in
     let v = c .before .before .top-frame .ensures f η fr K A R e (omega (arith, t .callers, b .pre .0 .1)) (counted-under t (b .args .h .frames - 1) (omega (arith, b .pre .1))) in
-    rw (is-assert _ fr v  (c .enum-told2 .given .1)) tt
+    rw (is-assert _ fr v (c .enum-told2 .given .1)) tt
 
 -- src/lib.rt:191:1
 same-length-9 : tie.Need-same-length-9
@@ -170,7 +170,7 @@ unfolding controlIs
 returns-9 c s f η fr K A R e t =
     let b = c .before .before .before .before .before .before .before in
     let v = c .before .before .top-frame .ensures f η fr K A R e (omega (arith, t .callers, b .pre .0 .1)) (counted-under t (b .args .h .frames - 1) (omega (arith, b .pre .1))) in
-    rw (is-discard _ fr v  (c .enum-told3 .given .1)) tt
+    rw (is-discard _ fr v (c .enum-told3 .given .1)) tt
 
 pub resume-spec : {M : Type 1} → statement M
 resume-spec =
