@@ -11,7 +11,7 @@ pub enum Applied {
 }
 
 // A word read as signed.
-fn signed(a: u32) -> i32
+pub fn signed(a: u32) -> i32
     ensures { λ r. ⌜ r ≡ int a ⌝ }
 {
     if a < 2147483648 {

@@ -1,12 +1,13 @@
 -- Words that are all zero, and words that are the same.
-use mathlib.Core.Path.{_≡_, refl, ap, _∙_}
-use mathlib.Core.Bool.{Bool, true, false, _&&_, and-false, false≢true}
+use mathlib.Core.Path.{_≡_, refl, sym, ap, _∙_}
+use mathlib.Core.Bool.{Bool, true, false, _&&_, and-assoc, and-true, and-false, false≢true}
 use mathlib.Core.List.{List, [], _∷_, _++_, append-nil}
-use Prim.Native.Nat.{ℕ, zero, suc, _+_, _<_}
+use Prim.Native.Nat.{ℕ, zero, suc, _+_, _-_, _<_, _≤_}
 use native.Mathlib.Numerals.{add-one}
+use native.Mathlib.Omega.{arith}
 use lib.Dec.{eqb}
-use lib.ListN.{drop, length, getD, replicate}
-use lib.Seq.{drop-cons, drop-length}
+use lib.ListN.{take, drop, length, getD, replicate, length-drop, take-append-drop}
+use lib.Seq.{take-all, drop-cons, drop-drop, drop-length}
 use borrow.Author.Tests.{eq-eqb, ne-eqb, eqb-true}
 use Rattle.words.specs.Blocks.{allZero, eqWords}
 
@@ -63,6 +64,45 @@ module _ (a b : List ℕ) (i : ℕ) (ha : i < length a) (hb : i < length b) wher
 
   pub same-less : (getD a i 0 ≡ getD b i 0 → ⊥) → eqWords (drop i a) (drop i b) ≡ false
   same-less n = rw (drop-cons a i 0 ha, drop-cons b i 0 hb, ne-eqb (getD a i 0) (getD b i 0) n)
+
+-- ---- eight words at a time
+
+-- words before a place and from it on
+pub zero-append : (a b : List ℕ) → allZero (a ++ b) ≡ (allZero a && allZero b)
+zero-append [] b = refl
+zero-append (x ∷ a) b = rw (zero-append a b) (sym (and-assoc (eqb x 0) (allZero a) (allZero b)))
+
+module _ (l : List ℕ) (i : ℕ) where
+  -- a list from a place on, as it is lent
+  pub tail : take (length l - i) (drop i l) ≡ drop i l
+  tail = take-all (length l - i) (drop i l) (simp length-drop (omega arith))
+
+  eight : allZero (drop i l) ≡ (allZero (take 8 (take (length l - i) (drop i l))) && allZero (drop (i + 8) l))
+  eight =
+      rw tail
+      (ap allZero (sym (take-append-drop 8 (drop i l)))
+      ∙ zero-append (take 8 (drop i l)) (drop 8 (drop i l))
+      ∙ ap (λ (t : List ℕ). allZero (take 8 (drop i l)) && allZero t) (drop-drop 8 i l))
+
+  pub eight-more : allZero (take 8 (take (length l - i) (drop i l))) ≡ true → allZero (drop i l) ≡ allZero (drop (i + 8) l)
+  eight-more e = eight ∙ rw e
+
+  pub eight-less : allZero (take 8 (take (length l - i) (drop i l))) ≡ false → allZero (drop i l) ≡ false
+  eight-less e = eight ∙ rw e
+
+-- the first eight words, four and four
+pub eight-words : (l : List ℕ) → 8 ≤ length l
+    → ((eqb (getD l 0 0) 0 && (eqb (getD l 1 0) 0 && (eqb (getD l 2 0) 0 && eqb (getD l 3 0) 0)))
+    && (eqb (getD l 4 0) 0 && (eqb (getD l 5 0) 0 && (eqb (getD l 6 0) 0 && eqb (getD l 7 0) 0)))) ≡ allZero (take 8 l)
+eight-words [] h = absurd (omega arith)
+eight-words (a ∷ []) h = absurd (omega arith)
+eight-words (a ∷ b ∷ []) h = absurd (omega arith)
+eight-words (a ∷ b ∷ c ∷ []) h = absurd (omega arith)
+eight-words (a ∷ b ∷ c ∷ d ∷ []) h = absurd (omega arith)
+eight-words (a ∷ b ∷ c ∷ d ∷ e ∷ []) h = absurd (omega arith)
+eight-words (a ∷ b ∷ c ∷ d ∷ e ∷ f ∷ []) h = absurd (omega arith)
+eight-words (a ∷ b ∷ c ∷ d ∷ e ∷ f ∷ g ∷ []) h = absurd (omega arith)
+eight-words (a ∷ b ∷ c ∷ d ∷ e ∷ f ∷ g ∷ k ∷ l) h = simp (and-assoc, and-true)
 
 -- past the last word nothing is left
 pub ended : (l : List ℕ) (i : ℕ) → length l ≡ i → drop i l ≡ []

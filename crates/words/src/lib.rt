@@ -36,8 +36,8 @@ pub fn copy_down(m: &mut [u32], from: usize, to: usize, n: usize)
     }
 }
 
-// Whether every word is zero.
-pub fn all_zero(s: &[u32]) -> bool
+// Whether every word is zero, one by one.
+fn each_zero(s: &[u32]) -> bool
     ensures { λ r. ⌜ r ≡ allZero (now (s .entry)) ⌝ }
 {
     let mut i = 0;
@@ -48,6 +48,31 @@ pub fn all_zero(s: &[u32]) -> bool
         i += 1;
     }
     true
+}
+
+// Whether the first eight words are zero, with one branch.
+fn eight_zero(s: &[u32]) -> bool
+    requires { ⌜ 8 ≤ length (now s) ⌝ }
+    ensures { λ r. ⌜ r ≡ allZero (take 8 (now (s .entry))) ⌝ }
+{
+    let low = (s[0] == 0) & ((s[1] == 0) & ((s[2] == 0) & (s[3] == 0)));
+    let high = (s[4] == 0) & ((s[5] == 0) & ((s[6] == 0) & (s[7] == 0)));
+    low & high
+}
+
+// Whether every word is zero, eight at a time.
+pub fn all_zero(s: &[u32]) -> bool
+    ensures { λ r. ⌜ r ≡ allZero (now (s .entry)) ⌝ }
+{
+    let n = s.len();
+    let mut at = 0;
+    while 8 <= n - at {
+        if !eight_zero(&s[at..]) {
+            return false;
+        }
+        at += 8;
+    }
+    each_zero(&s[at..])
 }
 
 // Whether two lists have the same words.

@@ -1,42 +1,69 @@
-use Rattle.words.proofs.Tests.{zero-more, zero-less, ended}
+use Rattle.words.proofs.Tests.{tail, eight-more, eight-less}
 use Rattle.words.specs.Blocks.{allZero}
 use lib.ListN.{length, drop}
 use Prim.Native.Nat.{_≤_, _-_}
-use mathlib.Core.Path.{_≡_, _∙_, sym, refl, ap}
-use native.Mathlib.Omega.{arith}
+use mathlib.Core.Path.{_≡_, refl, sym, ap, _∙_}
+use borrow.Author.Tests.{not-true, not-false}
 use borrow.Author.Needs.{needs}
 use Rattle.words.proofs.all_zero.Statement.{statement}
 use Rattle.words.proofs.all_zero.Tie as tie
 
 abbrev Inv-loop : tie.InvT-loop
-Inv-loop s i₀ i = (i ≤ length s) × (allZero (drop i s) ≡ allZero s)
+Inv-loop s n at₀ at = (at ≤ length s) × (allZero (drop at s) ≡ allZero s)
 
 abbrev μ-loop : tie.MeasureT-loop
-μ-loop s i₀ i = length s - i
+μ-loop s n at₀ at = length s - at
 
 loop-holds : tie.Need-loop-holds Inv-loop μ-loop
 loop-holds c = (search needs, refl)
 
-mul-if1 : tie.Need-mul-if1 Inv-loop μ-loop
-mul-if1 c = search needs
+sub-loop : tie.Need-sub-loop Inv-loop μ-loop
+sub-loop c = search needs
 
-shared-slice-read-if1 : tie.Need-shared-slice-read-if1 Inv-loop μ-loop
-shared-slice-read-if1 c = search needs
+mul-eight-zero : tie.Need-mul-eight-zero Inv-loop μ-loop
+mul-eight-zero c = search needs
+
+sub-eight-zero : tie.Need-sub-eight-zero Inv-loop μ-loop
+sub-eight-zero c = search needs
+
+part-eight-zero-start : tie.Need-part-eight-zero-start Inv-loop μ-loop
+part-eight-zero-start c = search needs
+
+part-eight-zero-end : tie.Need-part-eight-zero-end Inv-loop μ-loop
+part-eight-zero-end c = search needs
+
+eight-zero-requires : tie.Need-eight-zero-requires Inv-loop μ-loop
+eight-zero-requires c κs = search needs
 
 returns : tie.Need-returns Inv-loop μ-loop
-returns c = let l = c .before .before .before .loop in sym (sym (l .inv .1) ∙ zero-less _ (l .i) (c .before .before .loop-test .taken) (c .if1 .taken))
+returns c = let l = c .before .before .before .before .loop in sym (sym (l .inv .1) ∙ eight-less _ (l .at) (sym (c .before .eight-zero .ensures) ∙ not-true _ (c .if1 .taken)))
 
-add-i : tie.Need-add-i Inv-loop μ-loop
-add-i c = search needs
+add-at : tie.Need-add-at Inv-loop μ-loop
+add-at c = search needs
 
 loop-less : tie.Need-loop-less Inv-loop μ-loop
 loop-less c = search needs
 
 loop-again : tie.Need-loop-again Inv-loop μ-loop
-loop-again c = let l = c .before .before .before .loop in (search needs, sym (zero-more _ (l .i) (c .before .before .loop-test .taken) (c .if1 .left)) ∙ l .inv .1)
+loop-again c = let l = c .before .before .before .before .loop in (search needs, sym (eight-more _ (l .at) (sym (c .before .eight-zero .ensures) ∙ not-false _ (c .if1 .left))) ∙ l .inv .1)
+
+mul-each-zero : tie.Need-mul-each-zero Inv-loop μ-loop
+mul-each-zero c = search needs
+
+sub-each-zero : tie.Need-sub-each-zero Inv-loop μ-loop
+sub-each-zero c = search needs
+
+part-each-zero-start : tie.Need-part-each-zero-start Inv-loop μ-loop
+part-each-zero-start c = search needs
+
+part-each-zero-end : tie.Need-part-each-zero-end Inv-loop μ-loop
+part-each-zero-end c = search needs
+
+each-zero-requires : tie.Need-each-zero-requires Inv-loop μ-loop
+each-zero-requires c κs = search needs
 
 returns-2 : tie.Need-returns-2 Inv-loop μ-loop
-returns-2 c = let l = c .before .loop in sym (sym (l .inv .1) ∙ ap allZero (ended (c .before .before .args .s .now) (l .i) (omega arith)))
+returns-2 c = let l = c .before .before .before .loop in c .each-zero .ensures ∙ ap allZero (tail (c .before .before .before .before .before .args .s .now) (l .at)) ∙ l .inv .1
 
 pub all-zero-spec : {M : Type 1} → statement M
 all-zero-spec =
@@ -45,10 +72,19 @@ all-zero-spec =
     Inv-loop
     μ-loop
     loop-holds
-    mul-if1
-    shared-slice-read-if1
+    sub-loop
+    mul-eight-zero
+    sub-eight-zero
+    part-eight-zero-start
+    part-eight-zero-end
+    eight-zero-requires
     returns
-    add-i
+    add-at
     loop-less
     loop-again
+    mul-each-zero
+    sub-each-zero
+    part-each-zero-start
+    part-each-zero-end
+    each-zero-requires
     returns-2)

@@ -1,0 +1,11 @@
+pub mod Slots
+pub mod Blocks
+pub mod Passing
+pub mod Runs
+pub mod Sound
+pub mod Complete
+pub mod Loops
+pub mod Tables
+pub mod Ways
+pub mod Rooms
+pub mod Samples
