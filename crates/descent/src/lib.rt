@@ -1,0 +1,148 @@
+// The walk down an activation's frames, from what stands over them.
+use frames::Down;
+use frames::Next;
+use frames::bare;
+use frames::frame_step;
+use frames::giving;
+use nodefacts::expression_type;
+use nodefacts::is_constant;
+use nodefacts::is_expression;
+use nodefacts::is_statement;
+use nodefacts::reads_held;
+use nodefacts::returning;
+use nodefacts::through;
+use store::Control;
+use store::Ref;
+use store::Value;
+use varset::VarSet;
+ghost use mathlib.Core.Path.{_≡_};
+ghost use mathlib.Core.Bool.{false};
+ghost use Prim.Native.Nat.{_+_, _*_, _≤_};
+ghost use lib.ListN.{length};
+ghost use Rattle.varset.specs.Sets.{has};
+ghost use Rattle.words.specs.Stacks.{entries};
+ghost use Rattle.words.specs.Walks.{chain};
+ghost use Rattle.scopes.specs.Counts.{Decls};
+ghost use Rattle.semantics.specs.Values.{typeV};
+ghost use Rattle.semantics.specs.Machine.{eval, exec};
+ghost use Rattle.semantics.specs.File.{programOf};
+ghost use Rattle.image.specs.Decode.{frameOf};
+ghost use Rattle.store.specs.Meaning.{valueIs, refIs, controlIs};
+ghost use Rattle.nodefacts.specs.Part.{Part};
+ghost use Rattle.frames.specs.Travel.{suits, onward, ends};
+ghost use Rattle.frames.specs.Meaning.{downIs};
+ghost use Rattle.descent.specs.Begins.{Begins};
+
+// The answer to a control that is none of the function.
+fn refused(set: VarSet) -> Next
+    ensures { λ r. ⌜ r .ok ≡ false ⌝ }
+{
+    Next {
+        ok: false,
+        down: bare(set, false),
+    }
+}
+
+// Whether each of the k frames over the first `low` suits what comes down to it, and nothing is left open under them.
+pub fn frames_fit(
+    file: &[u8],
+    f: usize,
+    part: &[u8],
+    n: usize,
+    decls: &[usize; 64],
+    m: &[u32],
+    low: usize,
+    k: usize,
+    d: Down,
+) -> bool
+    requires part { ⌜ Part (now file) f (now part) n × Decls (now part) n (now decls) ⌝ }
+    requires room { ⌜ (16384 ≤ length (now m)) × (low + k ≤ 512) ⌝ }
+    ensures { λ r. ⌜ r ≡ chain (suits (programOf (now (file .entry))) f) (onward (programOf (now (file .entry))) f) ends (downIs d) (entries 20 frameOf (now (m .entry)) (4480 + low * 20) k) ⌝ }
+{
+    let mut i = k;
+    let mut down = d;
+    while 0 < i {
+        i -= 1;
+        let next = frame_step(file, f, part, n, decls, m, low + i, down);
+        if !next.ok {
+            return false;
+        }
+        down = next.down;
+    }
+    !down.some & down.come
+}
+
+// The type of a value.
+fn value_type(v: Value) -> u8
+    ensures { λ r. ⌜ r ≡ typeV (valueIs v) ⌝ }
+{
+    match v {
+        Value::Nothing => 0,
+        Value::Int(_) => 1,
+        Value::Truth(_) => 2,
+    }
+}
+
+// An expression to evaluate, over the frames.
+fn begin_expression(
+    file: &[u8],
+    f: usize,
+    part: &[u8],
+    n: usize,
+    decls: &[usize; 64],
+    x: u32,
+    set: VarSet,
+) -> Next
+    requires { ⌜ Part (now file) f (now part) n × Decls (now part) n (now decls) ⌝ }
+    ensures { λ r. ⌜ Begins (programOf (now (file .entry))) f (has (set .0)) (eval x) r ⌝ }
+{
+    if !is_expression(file, f, part, n, x) {
+        return refused(set);
+    }
+    if is_constant(file, f, part, n, x) {
+        return refused(set);
+    }
+    let kind = expression_type(file, f, part, n, decls, x);
+    let down = giving(set, false, kind);
+    Next {
+        ok: reads_held(file, f, part, n, x, set),
+        down,
+    }
+}
+
+// A statement to execute, over the frames.
+fn begin_statement(file: &[u8], f: usize, part: &[u8], n: usize, r: Ref, set: VarSet) -> Next
+    requires { ⌜ Part (now file) f (now part) n ⌝ }
+    ensures { λ b. ⌜ Begins (programOf (now (file .entry))) f (has (set .0)) (exec (refIs r)) b ⌝ }
+{
+    if !is_statement(file, f, part, n, r) {
+        return refused(set);
+    }
+    let p = through(file, f, part, n, r, set);
+    let left = p.left;
+    let down = bare(left, returning(file, f, part, n, r));
+    Next { ok: p.ok, down }
+}
+
+// The control over the frames of an activation whose variables with values are the set.
+pub fn begin(
+    file: &[u8],
+    f: usize,
+    part: &[u8],
+    n: usize,
+    decls: &[usize; 64],
+    set: VarSet,
+    c: Control,
+) -> Next
+    requires { ⌜ Part (now file) f (now part) n × Decls (now part) n (now decls) ⌝ }
+    ensures { λ r. ⌜ Begins (programOf (now (file .entry))) f (has (set .0)) (controlIs c) r ⌝ }
+{
+    match c {
+        Control::Val(v) => Next {
+            ok: true,
+            down: giving(set, false, value_type(v)),
+        },
+        Control::Eval(x) => begin_expression(file, f, part, n, decls, x, set),
+        Control::Exec(r) => begin_statement(file, f, part, n, r, set),
+    }
+}

@@ -1,0 +1,4 @@
+pub mod Walk
+pub mod Forms
+pub mod Files
+pub mod Steps

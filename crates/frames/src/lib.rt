@@ -1,0 +1,318 @@
+// The frames of an activation, one by one: whether each suits what comes down to it, and what it hands on.
+use nodefacts::is_statement;
+use nodefacts::returning;
+use nodefacts::through;
+use nodefacts::variable_type;
+use operands::gathers;
+use operands::node_suits;
+use records::function_count;
+use records::mask_of;
+use records::params_of;
+use records::result_of;
+use records::vars_of;
+use records::wide;
+use store::Ref;
+use store::frame_word;
+use store::ref_of;
+use typing::operator_type;
+use varset::VarSet;
+ghost use mathlib.Core.Path.{_≡_};
+ghost use mathlib.Core.Bool.{true, false};
+ghost use Prim.Native.Nat.{_+_, _*_, _≤_, _<_};
+ghost use lib.ListN.{length, getD};
+ghost use Rattle.varset.specs.Sets.{has};
+ghost use Rattle.scopes.specs.Counts.{Decls};
+ghost use Rattle.semantics.specs.Program.{op, fn};
+ghost use Rattle.semantics.specs.Machine.{Frame, and, wait, branch};
+ghost use Rattle.semantics.specs.File.{programOf};
+ghost use Rattle.semantics.specs.Test.{stmtIn};
+ghost use Rattle.image.specs.Decode.{refOf, operands};
+ghost use Rattle.store.specs.Meaning.{refIs, frameAt};
+ghost use Rattle.nodefacts.specs.Part.{Part};
+ghost use Rattle.operands.specs.Slots.{slotsIn};
+ghost use Rattle.frames.specs.Travel.{travel};
+ghost use Rattle.frames.specs.Meaning.{downIs, Steps, frameIn};
+
+// What comes down to a frame: whether a value is given, its type, the variables that have a value, whether something that returns has come.
+pub struct Down {
+    pub some: bool,
+    pub kind: u8,
+    pub set: VarSet,
+    pub come: bool,
+}
+
+// Whether a frame suits what comes down to it, and what it hands on where it does.
+pub struct Next {
+    pub ok: bool,
+    pub down: Down,
+}
+
+// The answer of a frame that does not suit.
+fn refused(d: Down) -> Next
+    ensures { λ r. ⌜ r .ok ≡ false ⌝ }
+{
+    Next { ok: false, down: d }
+}
+
+// A value of a type handed on.
+pub fn giving(set: VarSet, come: bool, kind: u8) -> Down
+    ensures { λ r. ⌜ downIs r ≡ travel true kind (has (set .0)) come ⌝ }
+{
+    Down {
+        some: true,
+        kind,
+        set,
+        come,
+    }
+}
+
+// No value handed on.
+pub fn bare(set: VarSet, come: bool) -> Down
+    ensures { λ r. ⌜ downIs r ≡ travel false 0 (has (set .0)) come ⌝ }
+{
+    Down {
+        some: false,
+        kind: 0,
+        set,
+        come,
+    }
+}
+
+// An operator's operands.
+fn operator_step(
+    file: &[u8],
+    f: usize,
+    part: &[u8],
+    n: usize,
+    decls: &[usize; 64],
+    m: &[u32],
+    i: usize,
+    d: Down,
+) -> Next
+    requires part { ⌜ Part (now file) f (now part) n × Decls (now part) n (now decls) ⌝ }
+    requires room { ⌜ (16384 ≤ length (now m)) × (i < 512) ⌝ }
+    ensures { λ r. ⌜ Steps (programOf (now (file .entry))) f d (operands (op (getD (now (m .entry)) (frameAt i + 1) 0)) (getD (now (m .entry)) (frameAt i + 2) 0) (getD (now (m .entry)) (frameAt i + 3) 0) (slotsIn (now (m .entry)) i)) r ⌝ }
+{
+    let x = frame_word(m, i, 1);
+    if !d.some {
+        return refused(d);
+    }
+    if 16 <= x {
+        return refused(d);
+    }
+    let set = d.set;
+    let ok = gathers(file, f, part, n, decls, m, i, 0, 2, d.kind, set);
+    let down = giving(set, d.come, operator_type(x as u8));
+    Next { ok, down }
+}
+
+// A call's arguments.
+fn call_step(
+    file: &[u8],
+    f: usize,
+    part: &[u8],
+    n: usize,
+    decls: &[usize; 64],
+    m: &[u32],
+    i: usize,
+    d: Down,
+) -> Next
+    requires part { ⌜ Part (now file) f (now part) n × Decls (now part) n (now decls) ⌝ }
+    requires room { ⌜ (16384 ≤ length (now m)) × (i < 512) ⌝ }
+    ensures { λ r. ⌜ Steps (programOf (now (file .entry))) f d (operands (fn (getD (now (m .entry)) (frameAt i + 1) 0)) (getD (now (m .entry)) (frameAt i + 2) 0) (getD (now (m .entry)) (frameAt i + 3) 0) (slotsIn (now (m .entry)) i)) r ⌝ }
+{
+    let g = frame_word(m, i, 1) as usize;
+    if !d.some {
+        return refused(d);
+    }
+    if function_count(file) <= g {
+        return refused(d);
+    }
+    let set = d.set;
+    let count = wide(params_of(file, g));
+    let ok = gathers(
+        file,
+        f,
+        part,
+        n,
+        decls,
+        m,
+        i,
+        mask_of(file, g),
+        count,
+        d.kind,
+        set,
+    );
+    let down = giving(set, d.come, result_of(file, g));
+    Next { ok, down }
+}
+
+// The right side of an &&.
+fn and_step(
+    file: &[u8],
+    f: usize,
+    part: &[u8],
+    n: usize,
+    decls: &[usize; 64],
+    x: u32,
+    d: Down,
+) -> Next
+    requires { ⌜ Part (now file) f (now part) n × Decls (now part) n (now decls) ⌝ }
+    ensures { λ r. ⌜ Steps (programOf (now (file .entry))) f d (and x) r ⌝ }
+{
+    if !d.some {
+        return refused(d);
+    }
+    if d.kind != 2 {
+        return refused(d);
+    }
+    let set = d.set;
+    let ok = node_suits(file, f, part, n, decls, 2, x, set);
+    let down = giving(set, d.come, 2);
+    Next { ok, down }
+}
+
+// A waiting statement, by its reference's word.
+fn wait_step(file: &[u8], f: usize, part: &[u8], n: usize, x: u32, d: Down) -> Next
+    requires { ⌜ Part (now file) f (now part) n ⌝ }
+    ensures { λ r. ⌜ Steps (programOf (now (file .entry))) f d (wait (refOf x)) r ⌝ }
+{
+    if d.some {
+        return refused(d);
+    }
+    let r = ref_of(x);
+    if !is_statement(file, f, part, n, r) {
+        return refused(d);
+    }
+    let set = d.set;
+    let p = through(file, f, part, n, r, set);
+    let left = p.left;
+    let come = d.come | returning(file, f, part, n, r);
+    let down = bare(left, come);
+    Next { ok: p.ok, down }
+}
+
+// An assignment to variable x.
+fn store_step(
+    file: &[u8],
+    f: usize,
+    part: &[u8],
+    n: usize,
+    decls: &[usize; 64],
+    x: u32,
+    d: Down,
+) -> Next
+    requires { ⌜ Part (now file) f (now part) n × Decls (now part) n (now decls) ⌝ }
+    ensures { λ r. ⌜ Steps (programOf (now (file .entry))) f d (Frame.store x) r ⌝ }
+{
+    if !d.some {
+        return refused(d);
+    }
+    if wide(vars_of(file, f)) <= x {
+        return refused(d);
+    }
+    let set = d.set;
+    let ok = d.kind == variable_type(file, f, part, n, decls, x);
+    let down = bare(set.insert(x), d.come);
+    Next { ok, down }
+}
+
+// The two branches of an if, by their references' words.
+fn branch_step(file: &[u8], f: usize, part: &[u8], n: usize, x: u32, y: u32, d: Down) -> Next
+    requires { ⌜ Part (now file) f (now part) n ⌝ }
+    ensures { λ r. ⌜ Steps (programOf (now (file .entry))) f d (branch (refOf x) (refOf y)) r ⌝ }
+{
+    if !d.some {
+        return refused(d);
+    }
+    if d.kind != 2 {
+        return refused(d);
+    }
+    let r = ref_of(x);
+    let q = ref_of(y);
+    if !is_statement(file, f, part, n, r) {
+        return refused(d);
+    }
+    if !is_statement(file, f, part, n, q) {
+        return refused(d);
+    }
+    branches(file, f, part, n, r, q, d)
+}
+
+// Two branches that are statements.
+fn branches(file: &[u8], f: usize, part: &[u8], n: usize, r: Ref, q: Ref, d: Down) -> Next
+    requires part { ⌜ Part (now file) f (now part) n ⌝ }
+    requires statements { ⌜ (stmtIn (programOf (now file)) f (refIs r) ≡ true) × (stmtIn (programOf (now file)) f (refIs q) ≡ true) ⌝ }
+    requires given { ⌜ (d .some ≡ true) × (d .kind ≡ 2) ⌝ }
+    ensures { λ b. ⌜ Steps (programOf (now (file .entry))) f d (branch (refIs r) (refIs q)) b ⌝ }
+{
+    let set = d.set;
+    let p = through(file, f, part, n, r, set);
+    let o = through(file, f, part, n, q, set);
+    let left = p.left;
+    let other = o.left;
+    let ends = returning(file, f, part, n, r);
+    let come = d.come | (ends & returning(file, f, part, n, q));
+    let down = bare(left.meet(other), come);
+    Next {
+        ok: p.ok & o.ok,
+        down,
+    }
+}
+
+// A return's value.
+fn leave_step(file: &[u8], f: usize, d: Down) -> Next
+    requires { ⌜ 12 * (1 + f) + 12 ≤ length (now file) ⌝ }
+    ensures { λ r. ⌜ Steps (programOf (now (file .entry))) f d Frame.leave r ⌝ }
+{
+    let set = d.set;
+    let down = bare(set, true);
+    Next {
+        ok: d.some & (d.kind == result_of(file, f)),
+        down,
+    }
+}
+
+// What comes down, taken.
+fn taken(d: Down) -> Down
+    ensures { λ r. ⌜ downIs r ≡ travel false 0 (has (d .set .0)) (d .come) ⌝ }
+{
+    let set = d.set;
+    bare(set, d.come)
+}
+
+// The frame with i frames under it.
+pub fn frame_step(
+    file: &[u8],
+    f: usize,
+    part: &[u8],
+    n: usize,
+    decls: &[usize; 64],
+    m: &[u32],
+    i: usize,
+    d: Down,
+) -> Next
+    requires part { ⌜ Part (now file) f (now part) n × Decls (now part) n (now decls) ⌝ }
+    requires room { ⌜ (16384 ≤ length (now m)) × (i < 512) ⌝ }
+    ensures { λ r. ⌜ Steps (programOf (now (file .entry))) f d (frameIn (now (m .entry)) i) r ⌝ }
+{
+    let kind = frame_word(m, i, 0);
+    let x = frame_word(m, i, 1);
+    match kind {
+        1 => operator_step(file, f, part, n, decls, m, i, d),
+        2 => call_step(file, f, part, n, decls, m, i, d),
+        3 => and_step(file, f, part, n, decls, x, d),
+        4 => wait_step(file, f, part, n, x, d),
+        5 => store_step(file, f, part, n, decls, x, d),
+        6 => branch_step(file, f, part, n, x, frame_word(m, i, 2), d),
+        7 => leave_step(file, f, d),
+        8 => Next {
+            ok: d.some & (d.kind == 2),
+            down: taken(d),
+        },
+        _ => Next {
+            ok: d.some,
+            down: taken(d),
+        },
+    }
+}

@@ -1,0 +1,107 @@
+-- The states that a run passes through.
+use mathlib.Core.Path.{_≡_, refl, sym, ap, _∙_}
+use mathlib.Core.Bool.{true, false}
+use mathlib.Core.List.{List, [], _∷_, _++_}
+use Prim.Native.Nat.{ℕ, suc, _+_, _*_, _-_, _^_, _≤_, _<_}
+use native.Mathlib.Omega.{arith}
+use lib.ListN.{length, getD}
+use Rattle.language.specs.Check.{accepted, checkOf}
+use Rattle.semantics.specs.Values.{Value}
+use Rattle.semantics.specs.Program.{Program}
+use Rattle.semantics.specs.Machine as machine
+use Rattle.semantics.specs.Machine.{Frame, Saved, calm, State, running}
+use Rattle.semantics.specs.Next.{next}
+use Rattle.semantics.specs.Run.{within, runOf}
+use Rattle.semantics.specs.Fit.{Fit}
+use Rattle.semantics.specs.File.{programOf}
+use Rattle.semantics.proofs.One.{sound}
+use Rattle.semantics.proofs.Progress.{progress}
+use Rattle.semantics.proofs.Files.{accepted-program}
+use Rattle.semantics.proofs.Tests.{limits-say}
+use Rattle.semantics.proofs.Safety.{stays-fit}
+use Rattle.image.specs.Image.{image}
+use Rattle.image.specs.Core.{core}
+use Rattle.store.specs.declared.Control as code
+use Rattle.store.specs.Meaning.{controlIs}
+use Rattle.transitions.specs.declared.Head.{Head}
+use Rattle.transitions.specs.declared.Stepped.{Stepped}
+use Rattle.transitions.specs.declared.Stepped.the-variants.{Went, Full, Returned, Arith, Abort}
+use Rattle.transitions.specs.Comes.{Tells, Starts, Cleared, Comes}
+use Rattle.stepping.specs.Done.{Stands, Done}
+use Rattle.machine.specs.declared.Outcome.{Outcome}
+use Rattle.machine.specs.declared.Outcome.the-variants as outcome
+use Rattle.machine.specs.Runs.{Ends}
+use Rattle.machine.proofs.Ending.{ends-step, ends-full, ends-spent, ends-raised}
+
+-- after k steps the run from σ stands here, and ends as the run from here does
+pub record Reached (s : List ℕ) (n d : ℕ) (σ : State) (k : ℕ) (c : code.Control) (h : Head) (m R : List ℕ) : Type 0 where
+  pub function : ℕ
+  pub variables : List Value
+  pub frames : List Frame
+  pub callers : List Saved
+  pub held : m ≡ core function variables frames callers ++ R
+  pub tells : Tells s h function frames callers
+  pub fit : Fit (programOf s) (running (controlIs c) calm function variables frames callers)
+  pub then : (o : Outcome) (st : ℕ) (m' : List ℕ) → Ends k (runOf (programOf s) (n - k) (running (controlIs c) calm function variables frames callers)) o st m' R
+      → Ends d (runOf (programOf s) (n - d) σ) o st m' R
+
+-- at the first
+pub reached : (s : List ℕ) (n d : ℕ) (c : code.Control) (h : Head) (m R : List ℕ) (f : ℕ) (η : List Value) (K : List Frame) (A : List Saved)
+    → m ≡ core f η K A ++ R → Tells s h f K A → Fit (programOf s) (running (controlIs c) calm f η K A)
+    → Reached s n d (running (controlIs c) calm f η K A) d c h m R
+reached s n d c h m R f η K A e t q =
+    record { function = f; variables = η; frames = K; callers = A; held = e; tells = t; fit = q; then = λ o st m' x. x }
+
+-- it is where a step may be taken
+pub reached-stands : (s table : List ℕ) (n d : ℕ) (σ : State) (k : ℕ) (c : code.Control) (h : Head) (m R : List ℕ) → checkOf s ≡ accepted → Starts s table
+    → Reached s n d σ k c h m R → Stands s table (controlIs c) h m
+reached-stands s table n d σ k c h m R p i r =
+    let q = sym (r .tells .function) in
+    record {
+      passed = p;
+      starts = i;
+      variables = r .variables;
+      frames = r .frames;
+      callers = r .callers;
+      rest = R;
+      held = rw q at (r .held);
+      tells = rw q at (r .tells);
+      fit = rw q at (r .fit);
+    }
+
+module _ (s : List ℕ) (bytes : (i : ℕ) → getD s i 0 < 256) (passed : checkOf s ≡ accepted) (n d : ℕ) (σ : State) (k : ℕ) (c : code.Control) (h : Head) (m m' R : List ℕ)
+    (less : k < n) (r : Reached s n d σ k c h m R) where
+  abbrev here : State
+  here = running (controlIs c) calm (r .function) (r .variables) (r .frames) (r .callers)
+
+  abbrev Step : Stepped → Type 0
+  Step a = Done s a m m' R (next (programOf s) here)
+
+  -- the rule that applies
+  applies = progress (accepted-program s passed) here (r .fit .proper) tt
+
+  comes : (a : Stepped) → Step a → Comes s a m m' R (applies .state)
+  comes a q = rw (sound (applies .step)) at q
+
+  pub reached-on : (c' : code.Control) (h' : Head) → Step (Went c' h') → Reached s n d σ (k + 1) c' h' m' R
+  unfolding Comes
+  reached-on c' h' q =
+      let o = comes (Went c' h') q in
+      let f = stays-fit s bytes passed (r .fit) (applies .step) (limits-say (applies .state) .so (o .limits)) in
+      let e = sound (applies .step) in
+      record {
+        function = o .function;
+        variables = o .variables;
+        frames = o .frames;
+        callers = o .callers;
+        held = o .held;
+        tells = o .tells;
+        fit = rw (o .is) at f;
+        then = λ x st l z. r .then x st l (ends-step (programOf s) n k here (applies .state) (applies .rule) less e (o .limits) (rw (o .is) z));
+      }
+
+  pub reached-full : Step Full → (m ≡ m' → m' ≡ image here ++ R) → Ends d (runOf (programOf s) (n - d) σ) outcome.Full k m' R
+  unfolding Comes
+  reached-full q i =
+      let o = comes Full q in
+      r .then outcome.Full k m' (ends-full (programOf s) n k here (applies .state) (applies .rule) less (sound (applies .step)) (o .0) (i (sym (o .1))))

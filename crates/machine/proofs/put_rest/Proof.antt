@@ -1,0 +1,24 @@
+use borrow.Author.Needs.{needs}
+use Rattle.machine.proofs.put_rest.Statement.{statement}
+use Rattle.machine.proofs.put_rest.Tie as tie
+use Rattle.machine.proofs.put_rest.Reads as reads
+use Rattle.machine.proofs.put_rest.Lts as lts
+
+-- src/lib.rt:89:5
+slice-write-m : tie.Need-slice-write-m
+slice-write-m c = search needs
+
+-- src/lib.rt:90:5
+slice-write-m-2 : tie.Need-slice-write-m-2
+slice-write-m-2 c = ?
+
+-- src/lib.rt:85:1
+same-length : tie.Need-same-length
+same-length c = search needs
+
+-- src/lib.rt:85:1
+returns : tie.Need-returns
+returns c = ?
+
+pub put-rest-spec : {M : Type 1} → statement M
+put-rest-spec = tie.close (tie.spec slice-write-m slice-write-m-2 same-length returns)
