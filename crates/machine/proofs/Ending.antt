@@ -109,3 +109,11 @@ module _ (P : Program) where
   pub ends-raised : (n k : ℕ) (x : machine.Exception) (m R : List ℕ) → m ≡ image (machine.exception x) ++ R
       → Ends k (runOf P (n - k) (machine.exception x)) (outcomeOf (run.raised x)) k m R
   ends-raised n k x m R q = rw (raised-run (n - k) x) (record { outcome-is = refl; steps-are = omega arith; held = q })
+
+  -- from the first
+  pub run-value : (n w : ℕ) (m R : List ℕ) → m ≡ image (State.value w) ++ R → Ends 0 (runOf P n (State.value w)) (code.Value (int w)) 0 m R
+  unfolding outcomeOf
+  run-value n w m R q = rw (value-run n w) (record { outcome-is = refl; steps-are = refl; held = q })
+
+  pub run-raised : (n : ℕ) (x : machine.Exception) (m R : List ℕ) → m ≡ image (machine.exception x) ++ R → Ends 0 (runOf P n (machine.exception x)) (outcomeOf (run.raised x)) 0 m R
+  run-raised n x m R q = rw (raised-run n x) (record { outcome-is = refl; steps-are = refl; held = q })

@@ -6,19 +6,21 @@ use Prim.Native.Nat.{ℕ, suc, _+_, _*_, _-_, _^_, _≤_, _<_}
 use native.Mathlib.Omega.{arith}
 use lib.ListN.{length, getD}
 use Rattle.language.specs.Check.{accepted, checkOf}
-use Rattle.semantics.specs.Values.{Value}
-use Rattle.semantics.specs.Program.{Program}
+use Rattle.records.specs.Parts.{partOf}
+use Rattle.semantics.specs.Values.{Value, nothing, int, truth}
+use Rattle.semantics.specs.Program.{Program, Ref, node, ifOf, seqOf}
 use Rattle.semantics.specs.Machine as machine
 use Rattle.semantics.specs.Machine.{Frame, Saved, calm, State, running}
-use Rattle.semantics.specs.Next.{next}
+use Rattle.semantics.specs.Next.{goes, next}
 use Rattle.semantics.specs.Run.{within, runOf}
 use Rattle.semantics.specs.Fit.{Fit}
 use Rattle.semantics.specs.File.{programOf}
 use Rattle.semantics.proofs.One.{sound}
-use Rattle.semantics.proofs.Progress.{progress}
+use Rattle.semantics.proofs.Progress.{Applies, progress}
 use Rattle.semantics.proofs.Files.{accepted-program}
 use Rattle.semantics.proofs.Tests.{limits-say}
 use Rattle.semantics.proofs.Safety.{stays-fit}
+use Rattle.image.specs.Layout.{refWord, controlWords}
 use Rattle.image.specs.Image.{image}
 use Rattle.image.specs.Core.{core}
 use Rattle.store.specs.declared.Control as code
@@ -26,11 +28,14 @@ use Rattle.store.specs.Meaning.{controlIs}
 use Rattle.transitions.specs.declared.Head.{Head}
 use Rattle.transitions.specs.declared.Stepped.{Stepped}
 use Rattle.transitions.specs.declared.Stepped.the-variants.{Went, Full, Returned, Arith, Abort}
-use Rattle.transitions.specs.Comes.{Tells, Starts, Cleared, Comes}
+use Rattle.transitions.specs.Comes.{Tells, Bounds, Starts, Cleared, Comes}
 use Rattle.stepping.specs.Done.{Stands, Done}
+use Rattle.stepping.proofs.Given.{limited}
+use Rattle.stepping.proofs.Standing.{executes}
+use Rattle.stepping.specs.Done.{Executes}
 use Rattle.machine.specs.declared.Outcome.{Outcome}
 use Rattle.machine.specs.declared.Outcome.the-variants as outcome
-use Rattle.machine.specs.Runs.{Ends}
+use Rattle.machine.specs.Runs.{outcomeOf, Ends}
 use Rattle.machine.proofs.Ending.{ends-step, ends-full, ends-spent, ends-raised}
 
 -- after k steps the run from σ stands here, and ends as the run from here does
@@ -78,6 +83,7 @@ module _ (s : List ℕ) (bytes : (i : ℕ) → getD s i 0 < 256) (passed : check
   Step a = Done s a m m' R (next (programOf s) here)
 
   -- the rule that applies
+  applies : Applies (programOf s) here
   applies = progress (accepted-program s passed) here (r .fit .proper) tt
 
   comes : (a : Stepped) → Step a → Comes s a m m' R (applies .state)
@@ -100,8 +106,57 @@ module _ (s : List ℕ) (bytes : (i : ℕ) → getD s i 0 < 256) (passed : check
         then = λ x st l z. r .then x st l (ends-step (programOf s) n k here (applies .state) (applies .rule) less e (o .limits) (rw (o .is) z));
       }
 
-  pub reached-full : Step Full → (m ≡ m' → m' ≡ image here ++ R) → Ends d (runOf (programOf s) (n - d) σ) outcome.Full k m' R
+  -- what follows is stored in the memory l
+  pub reached-full : Step Full → (l : List ℕ) → (m' ≡ m → l ≡ image here ++ R) → Ends d (runOf (programOf s) (n - d) σ) outcome.Full k l R
   unfolding Comes
-  reached-full q i =
+  reached-full q l i =
       let o = comes Full q in
-      r .then outcome.Full k m' (ends-full (programOf s) n k here (applies .state) (applies .rule) less (sound (applies .step)) (o .0) (i (sym (o .1))))
+      r .then outcome.Full k l (ends-full (programOf s) n k here (applies .state) (applies .rule) less (sound (applies .step)) (o .0) (i (o .1)))
+
+  pub reached-returned : (w : ℕ) → Step (Returned w) → (o : Outcome) (st : ℕ) (l : List ℕ)
+      → (Cleared m' R → Ends (k + 1) (runOf (programOf s) (n - (k + 1)) (machine.returned calm w)) o st l R) → Ends d (runOf (programOf s) (n - d) σ) o st l R
+  unfolding Comes
+  reached-returned w q o st l i =
+      let z = comes (Returned w) q in
+      let e : next (programOf s) here ≡ goes (applies .rule) (machine.returned calm w) = sound (applies .step) ∙ ap (goes (applies .rule)) (z .0) in
+      r .then o st l (ends-step (programOf s) n k here (machine.returned calm w) (applies .rule) less e refl (i (z .1)))
+
+  pub reached-arith : Step Arith → (l : List ℕ) → (Cleared m' R → l ≡ image (machine.exception machine.arith) ++ R) → Ends d (runOf (programOf s) (n - d) σ) outcome.Arith (k + 1) l R
+  unfolding Comes outcomeOf
+  reached-arith q l i =
+      let z = comes Arith q in
+      let e : next (programOf s) here ≡ goes (applies .rule) (machine.exception machine.arith) = sound (applies .step) ∙ ap (goes (applies .rule)) (z .0) in
+      r .then outcome.Arith (k + 1) l (ends-step (programOf s) n k here (machine.exception machine.arith) (applies .rule) less e refl (ends-raised (programOf s) n (k + 1) machine.arith l R (i (z .1))))
+
+  pub reached-abort : Step Abort → (l : List ℕ) → (Cleared m' R → l ≡ image (machine.exception machine.abort) ++ R) → Ends d (runOf (programOf s) (n - d) σ) outcome.Abort (k + 1) l R
+  unfolding Comes outcomeOf
+  reached-abort q l i =
+      let z = comes Abort q in
+      let e : next (programOf s) here ≡ goes (applies .rule) (machine.exception machine.abort) = sound (applies .step) ∙ ap (goes (applies .rule)) (z .0) in
+      r .then outcome.Abort (k + 1) l (ends-step (programOf s) n k here (machine.exception machine.abort) (applies .rule) less e refl (ends-raised (programOf s) n (k + 1) machine.abort l R (i (z .1))))
+
+-- its limits, and the word of its control
+pub reached-bounds : (s : List ℕ) (n d : ℕ) (σ : State) (k : ℕ) (c : code.Control) (h : Head) (m R : List ℕ) → Reached s n d σ k c h m R → 16384 ≤ length m → Bounds h m
+reached-bounds s n d σ k c h m R r l = let q = limited (r .tells) (r .fit) in (l, q .0, q .1)
+
+-- the word of a statement's reference is small
+first : {a b : ℕ} {l k : List ℕ} → a ∷ l ≡ b ∷ k → a ≡ b
+first e = ap (λ (l : List ℕ). getD l 0 0) e
+
+second : {a b c d : ℕ} → a ∷ b ∷ [] ≡ c ∷ d ∷ [] → b ≡ d
+second e = ap (λ (l : List ℕ). getD l 1 0) e
+
+ref-small : (t : List ℕ) (r : Ref) → Executes t r → refWord r < 4294967296
+unfolding refWord
+ref-small t (node i) x = omega (arith, x .0 .1)
+ref-small t Ref.nop x = omega arith
+ref-small t (ifOf i) x = omega (arith, x .0 .1)
+ref-small t (seqOf i) x = omega (arith, x .0 .1)
+
+pub stands-small : (s table : List ℕ) (c : machine.Control) (h : Head) (l : List ℕ) → Stands s table c h l → (i : ℕ) → controlWords c ≡ 5 ∷ i ∷ [] → i < 4294967296
+unfolding controlWords
+stands-small s table (machine.val nothing) h l st i e = absurd (let z : _≡_ {A = ℕ} 1 5 = first e in omega arith)
+stands-small s table (machine.val (int n)) h l st i e = absurd (let z : _≡_ {A = ℕ} 2 5 = first e in omega arith)
+stands-small s table (machine.val (truth b)) h l st i e = absurd (let z : _≡_ {A = ℕ} 3 5 = first e in omega arith)
+stands-small s table (machine.eval n) h l st i e = absurd (let z : _≡_ {A = ℕ} 4 5 = first e in omega arith)
+stands-small s table (machine.exec r) h l st i e = rw (← (second e)) (ref-small (partOf s (h .function)) r (executes s table (partOf s (h .function)) h l refl r st))

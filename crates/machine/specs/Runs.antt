@@ -4,7 +4,8 @@ use mathlib.Core.List.{List, [], _∷_, _++_}
 use Prim.Native.Nat.{ℕ, _+_}
 use Rattle.arith.specs.Int.{int}
 use Rattle.language.specs.Check.{accepted, checkOf}
-use Rattle.semantics.specs.Machine.{arith, abort, State}
+use Rattle.semantics.specs.Values as values
+use Rattle.semantics.specs.Machine.{arith, abort, Frame, Control, Saved, calm, State, main, running}
 use Rattle.semantics.specs.Run as run
 use Rattle.semantics.specs.Run.{Ran, raised}
 use Rattle.semantics.specs.Fit.{Fit}
@@ -29,6 +30,23 @@ pub record Held (s l : List ℕ) : Type 0 where
   pub rest : List ℕ
   pub held : l ≡ image state ++ rest
   pub fit : Fit (programOf s) state
+
+-- the same of main() with nothing waiting, and of a running state
+pub record Begins (s l : List ℕ) : Type 0 where
+  pub passed : checkOf s ≡ accepted
+  pub rest : List ℕ
+  pub held : l ≡ image (main calm) ++ rest
+
+pub record Proceeds (s l : List ℕ) : Type 0 where
+  pub passed : checkOf s ≡ accepted
+  pub control : Control
+  pub function : ℕ
+  pub variables : List values.Value
+  pub frames : List Frame
+  pub callers : List Saved
+  pub rest : List ℕ
+  pub held : l ≡ image (running control calm function variables frames callers) ++ rest
+  pub fit : Fit (programOf s) (running control calm function variables frames callers)
 
 -- outcome, steps and memory of a run, after k steps before it
 pub record Ends (k : ℕ) (q : Ran) (outcome : Outcome) (steps : ℕ) (m R : List ℕ) : Type 0 where

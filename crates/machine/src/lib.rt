@@ -27,7 +27,7 @@ ghost use Rattle.image.specs.Core.{core};
 ghost use Rattle.store.specs.Meaning.{refIs, controlIs};
 ghost use Rattle.transitions.specs.Comes.{Tells, Bounds, Starts, Cleared};
 ghost use Rattle.stepping.specs.Done.{Stands};
-ghost use Rattle.machine.specs.Runs.{Held, Ends, Rests};
+ghost use Rattle.machine.specs.Runs.{Held, Begins, Proceeds, Ends, Rests};
 
 // How a run ended.
 pub enum Outcome {
@@ -74,7 +74,14 @@ fn put_back(m: &mut [u32], c: Control, h: Head)
         Control::Val(v) => match v {
             Value::Nothing => callstack::store_head(m, a, callers, frames, 1, 0),
             Value::Int(word) => callstack::store_head(m, a, callers, frames, 2, word),
-            Value::Truth(truth) => callstack::store_head(m, a, callers, frames, 3, store::bit_of(truth)),
+            Value::Truth(truth) => callstack::store_head(
+                m,
+                a,
+                callers,
+                frames,
+                3,
+                store::bit_of(truth),
+            ),
         },
         Control::Eval(i) => callstack::store_head(m, a, callers, frames, 4, i),
         Control::Exec(r) => callstack::store_head(m, a, callers, frames, 5, store::ref_word(r)),
@@ -129,7 +136,15 @@ fn stop(m: &mut [u32], c: Control, h: Head, outcome: Outcome, steps: u64) -> Ran
 }
 
 // Takes rules from a running state on, where some were taken before it.
-fn go(file: &[u8], starts: &[usize; 128], m: &mut [u32], from: Control, head: Head, taken: u64, allowed: u64) -> Ran
+fn go(
+    file: &[u8],
+    starts: &[usize; 128],
+    m: &mut [u32],
+    from: Control,
+    head: Head,
+    taken: u64,
+    allowed: u64,
+) -> Ran
     requires { ⌜ Stands (now file) (now starts) (controlIs from) head (now m) × (16384 ≤ length (now m)) × (taken ≤ allowed) ⌝ }
     ensures { λ r. ⌜ ((f : ℕ) (η : List values.Value) (K : List Frame) (A : List Saved) (R : List ℕ) → now (m .entry) ≡ core f η K A ++ R → Tells (now (file .entry)) head f K A → Fit (programOf (now (file .entry))) (running (controlIs from) calm f η K A) → Ends taken (runOf (programOf (now (file .entry))) (allowed - taken) (running (controlIs from) calm f η K A)) (r .outcome) (r .steps) (now (m .exit)) R) ⌝ }
 {
@@ -150,4 +165,92 @@ fn go(file: &[u8], starts: &[usize; 128], m: &mut [u32], from: Control, head: He
         }
     }
     stop(m, c, h, Outcome::Spent, steps)
+}
+
+// A run from the int that main has returned.
+fn conclude(m: &mut [u32], word: u32, allowed: u64) -> Ran
+    requires { ⌜ 16384 ≤ length (now m) ⌝ }
+    ensures { λ r. ⌜ ((P : Program) (R : List ℕ) → now (m .entry) ≡ image (machine.returned calm word) ++ R → Ends 0 (runOf P allowed (machine.returned calm word)) (r .outcome) (r .steps) (now (m .exit)) R) ⌝ }
+{
+    m[0] = 0;
+    m[1] = 0;
+    finish(m, word, 0, allowed)
+}
+
+// A run from main() with nothing waiting.
+fn begin(file: &[u8], m: &mut [u32], allowed: u64) -> Ran
+    requires { ⌜ Begins (now file) (now m) × (16384 ≤ length (now m)) ⌝ }
+    ensures { λ r. ⌜ ((R : List ℕ) → now (m .entry) ≡ image (machine.main calm) ++ R → Ends 0 (runOf (programOf (now (file .entry))) allowed (machine.main calm)) (r .outcome) (r .steps) (now (m .exit)) R) ⌝ }
+{
+    if allowed == 0 {
+        return Ran {
+            outcome: Outcome::Spent,
+            steps: 0,
+        };
+    }
+    let starts = starts_of(file);
+    let start = starts[0];
+    let count = count_of(file, 0);
+    m[0] = 0;
+    m[1] = 0;
+    callstack::enter_main(m, 0, wide(vars_of(file, 0)));
+    let c = Control::Exec(transitions::body_of(file, start, count));
+    let h = Head {
+        function: 0,
+        start,
+        count,
+        callers: 0,
+        frames: 0,
+        under: 0,
+    };
+    go(file, &starts, m, c, h, 1, allowed)
+}
+
+// A run from a running state: its head is taken out of the memory.
+fn proceed(file: &[u8], m: &mut [u32], allowed: u64) -> Ran
+    requires { ⌜ Proceeds (now file) (now m) × (16384 ≤ length (now m)) ⌝ }
+    ensures { λ r. ⌜ ((c : machine.Control) (f : ℕ) (η : List values.Value) (K : List Frame) (A : List Saved) (R : List ℕ) → now (m .entry) ≡ image (running c calm f η K A) ++ R → Fit (programOf (now (file .entry))) (running c calm f η K A) → Ends 0 (runOf (programOf (now (file .entry))) allowed (running c calm f η K A)) (r .outcome) (r .steps) (now (m .exit)) R) ⌝ }
+{
+    let starts = starts_of(file);
+    let callers = m[2] as usize - 1;
+    let c = store::control_of(m[3], m[4]);
+    let function = store::activation_word(m, callers, 0) as usize;
+    let frames = store::activation_word(m, callers, 1) as usize;
+    let total = canonical::frames_held(m, callers + 1);
+    let h = Head {
+        function,
+        start: starts[function],
+        count: count_of(file, function),
+        callers,
+        frames,
+        under: total - frames,
+    };
+    callstack::clear_head(m, callers);
+    go(file, &starts, m, c, h, 0, allowed)
+}
+
+// Runs the state in the memory, up to so many rules.
+pub fn run(file: &[u8], m: &mut [u32], allowed: u64) -> Ran
+    requires { ⌜ Held (now file) (now m) × (16384 ≤ length (now m)) ⌝ }
+    ensures { λ r. ⌜ ((s : State) (R : List ℕ) → now (m .entry) ≡ image s ++ R → Fit (programOf (now (file .entry))) s → Ends 0 (runOf (programOf (now (file .entry))) allowed s) (r .outcome) (r .steps) (now (m .exit)) R) ⌝ }
+{
+    let tag = m[0];
+    let word = m[1];
+    match tag {
+        1 => begin(file, m, allowed),
+        2 => proceed(file, m, allowed),
+        3 => conclude(m, word, allowed),
+        4 => Ran {
+            outcome: Outcome::Value(signed(word)),
+            steps: 0,
+        },
+        5 => Ran {
+            outcome: Outcome::Arith,
+            steps: 0,
+        },
+        _ => Ran {
+            outcome: Outcome::Abort,
+            steps: 0,
+        },
+    }
 }

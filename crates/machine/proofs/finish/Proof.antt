@@ -1,3 +1,9 @@
+use mathlib.Core.Path.{_≡_, refl, sym, ap, _∙_}
+use native.Mathlib.Omega.{arith}
+use mir.Syntax.{w32}
+use mir.ValLaws.{toZ-ofZ}
+use Rattle.semantics.specs.Machine as machine
+use Rattle.machine.proofs.Ending.{value-rests, returned-rests, ends-step, ends-returned, ends-value}
 use borrow.Author.Needs.{needs}
 use Rattle.machine.proofs.finish.Statement.{statement}
 use Rattle.machine.proofs.finish.Tie as tie
@@ -24,7 +30,11 @@ same-length c = search needs
 
 -- src/lib.rt:100:9
 returns : tie.Need-returns
-returns c = ?
+returns c P R cl =
+    let b = c .before .before .before .before .before .before .before in
+    rw (toZ-ofZ w32 (c .signed .result) (record { sfits = c .signed .ok }), c .signed .ensures)
+    (ends-step P (b .args .allowed) (b .args .steps) _ _ machine.Rule.value (c .before .before .before .before .before .if1 .taken) refl refl
+    (ends-value P (b .args .allowed) _ _ _ R (c .before .before .before .put-rest .ensures _ R cl (value-rests _))))
 
 -- src/lib.rt:105:5
 put-rest-requires-2 : tie.Need-put-rest-requires-2
@@ -36,7 +46,7 @@ same-length-2 c = search needs
 
 -- src/lib.rt:94:1
 returns-2 : tie.Need-returns-2
-returns-2 c = ?
+returns-2 c P R cl = let b = c .before .before .before .before .before .before in ends-returned P (b .args .allowed) _ _ _ R (c .before .before .before .before .if1 .left) (c .before .before .put-rest2 .ensures _ R cl (returned-rests _))
 
 pub finish-spec : {M : Type 1} → statement M
 finish-spec =

@@ -1,3 +1,8 @@
+use mathlib.Core.Path.{_≡_, refl, sym, ap, _∙_}
+use Rattle.semantics.specs.Machine.{calm, val, eval, exec}
+use Rattle.semantics.specs.Values.{nothing, int, truth}
+use Rattle.image.specs.Layout.{refWord, controlWords}
+use Rattle.store.specs.Meaning.{valueIs, refIs, controlIs}
 use borrow.Author.Needs.{needs}
 use Rattle.machine.proofs.put_back.Statement.{statement}
 use Rattle.machine.proofs.put_back.Tie as tie
@@ -61,7 +66,8 @@ enum-known-c-3 c = search needs
 
 -- src/lib.rt:80:77
 ref-word-requires : tie.Need-ref-word-requires
-ref-word-requires c κs = ?
+unfolding controlIs controlWords
+ref-word-requires c κs = c .before .before .before .before .before .before .before .pre .1 _ (rw (c .before .before .c3 .given .1))
 
 -- src/lib.rt:80:29
 store-head-requires-5 : tie.Need-store-head-requires-5
@@ -73,7 +79,8 @@ same-length c = search needs
 
 -- src/lib.rt:65:1
 returns : tie.Need-returns
-returns c = ?
+unfolding controlIs valueIs controlWords
+returns c s f η K A R e t = rw (c .before .before .before .before .before .before .before .c .given .1, c .before .before .before .before .enum-told .given .1) (c .before .before .store-head .ensures (val nothing) calm f η K A R e (t .callers) (t .frames) refl)
 
 -- src/lib.rt:65:1
 same-length-2 : tie.Need-same-length-2
@@ -81,7 +88,8 @@ same-length-2 c = search needs
 
 -- src/lib.rt:65:1
 returns-2 : tie.Need-returns-2
-returns-2 c = ?
+unfolding controlIs valueIs controlWords
+returns-2 c s f η K A R e t = rw (c .before .before .before .before .before .before .before .before .c .given .1, c .before .before .before .before .before .v .given .1) (c .before .before .store-head2 .ensures (val (int _)) calm f η K A R e (t .callers) (t .frames) refl)
 
 -- src/lib.rt:65:1
 same-length-3 : tie.Need-same-length-3
@@ -89,7 +97,8 @@ same-length-3 c = search needs
 
 -- src/lib.rt:65:1
 returns-3 : tie.Need-returns-3
-returns-3 c = ?
+unfolding controlIs valueIs controlWords
+returns-3 c s f η K A R e t = rw (c .before .before .before .before .before .before .before .before .before .c .given .1, c .before .before .before .before .before .before .v2 .given .1) (c .before .before .store-head3 .ensures (val (truth _)) calm f η K A R e (t .callers) (t .frames) (rw (c .before .before .before .bit-of .ensures)))
 
 -- src/lib.rt:65:1
 same-length-4 : tie.Need-same-length-4
@@ -97,7 +106,8 @@ same-length-4 c = search needs
 
 -- src/lib.rt:65:1
 returns-4 : tie.Need-returns-4
-returns-4 c = ?
+unfolding controlIs valueIs controlWords
+returns-4 c s f η K A R e t = rw (c .before .before .before .before .before .c2 .given .1) (c .before .before .store-head4 .ensures (eval _) calm f η K A R e (t .callers) (t .frames) refl)
 
 -- src/lib.rt:65:1
 same-length-5 : tie.Need-same-length-5
@@ -105,7 +115,8 @@ same-length-5 c = search needs
 
 -- src/lib.rt:65:1
 returns-5 : tie.Need-returns-5
-returns-5 c = ?
+unfolding controlIs valueIs controlWords
+returns-5 c s f η K A R e t = rw (c .before .before .before .before .before .before .c3 .given .1) (c .before .before .store-head5 .ensures (exec (refIs _)) calm f η K A R e (t .callers) (t .frames) (rw (c .before .before .before .ref-word .ensures)))
 
 pub put-back-spec : {M : Type 1} → statement M
 put-back-spec =
