@@ -1,0 +1,43 @@
+-- What a list of calls begins from, what the memory holds after each call, and what holds at the end.
+use mathlib.Core.Path.{_≡_}
+use mathlib.Core.Logic.{_⊎_}
+use mathlib.Core.List.{List, []}
+use Prim.Native.Nat.{ℕ}
+use lib.ListN.{length, drop}
+use Rattle.language.specs.Check.{accepted}
+use Rattle.semantics.specs.Machine.{State, exception, main, returned, running, calm}
+use Rattle.semantics.specs.Run.{allHeld}
+use Rattle.semantics.specs.File.{programOf}
+use Rattle.semantics.proofs.Progress.{One}
+use Rattle.semantics.proofs.Typed.{Typed}
+use Rattle.semantics.proofs.Calls.{Machine}
+use Rattle.image.specs.Decode.{stateOf}
+use Rattle.image.specs.Memory.{size, Holds}
+use Rattle.calls.specs.Answers.{startAnswer, memoryAnswer, startMemory}
+use Rattle.lists.specs.Forms.{Given}
+
+-- the list begins with memory that a start wrote over any content M, or that passed the memory check
+pub data Begins (e : Given) : Machine → List ℕ → Type 0 where
+  by-start : (M : List ℕ) → startAnswer (e .bytes) M ≡ accepted → Begins e (record { state = main calm; history = [] }) (startMemory (e .bytes) M)
+  stored : (M : List ℕ) → memoryAnswer (e .bytes) M ≡ accepted → Begins e (record { state = stateOf M; history = allHeld (stateOf M) }) M
+
+-- the memory m holds the image of the state; its later words and its length are those of M, which the list begins from
+pub record Image (M : List ℕ) (s : State) (m : List ℕ) : Type 0 where
+  pub holds : Holds m s
+  pub rest : drop size m ≡ drop size M
+  pub long : length m ≡ length M
+
+-- a final outcome: a value with its int, or an exception
+abbrev pub Final : State → Type 0
+Final (State.value c) = Unit {0}
+Final (exception x) = Unit {0}
+Final (main α) = ⊥
+Final (returned α c) = ⊥
+Final (running c α f η K A) = ⊥
+
+-- after the list, with what the last accepted call was given to read
+pub record Last (M : List ℕ) (e : Given) (m : List ℕ) (σ : Machine) : Type 0 where
+  pub onward : Final (σ .state) ⊎ One (programOf (e .bytes)) (σ .state)
+  pub typed : Typed (programOf (e .bytes)) (σ .state)
+  pub checked : memoryAnswer (e .bytes) m ≡ accepted
+  pub held : Image M (σ .state) m

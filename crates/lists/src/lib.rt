@@ -1,0 +1,1 @@
+// Whole lists of calls on one memory.

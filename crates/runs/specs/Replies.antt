@@ -1,0 +1,12 @@
+-- The code's answer of a run.
+use Prim.Native.Nat.{ℕ}
+use Rattle.semantics.specs.Run as run
+use Rattle.calls.specs.Answers.{Told, told, turned}
+use Rattle.machine.specs.Runs.{outcomeOf}
+use Rattle.runs.specs.declared.Reply.{Reply}
+use Rattle.runs.specs.declared.Reply.the-variants.{Ended, Refused}
+
+-- outcome and steps of an accepted run, or the refusal's number, place and item
+unfoldable pub replyOf : Told run.Ran → Reply
+replyOf (told q) = Ended (record { outcome = outcomeOf (q .outcome); steps = q .steps })
+replyOf (turned question place item) = Refused question place item

@@ -1,0 +1,36 @@
+// The entry point that runs the procedure in a memory.
+use acceptance::Answer;
+use machine::Ran;
+ghost use mathlib.Core.Path.{_≡_};
+ghost use Prim.Native.Nat.{_<_};
+ghost use Rattle.calls.specs.Answers.{runAnswer, runMemory};
+ghost use Rattle.runs.specs.Replies.{replyOf};
+
+// What a run answers: how it ended, or why it was refused.
+pub enum Reply {
+    Ended(Ran),
+    Refused {
+        question: u8,
+        place: usize,
+        item: u32,
+    },
+}
+
+// Runs the file's procedure in the memory for so many steps: questions 1 to 16, and where all pass, rules of the machine.
+pub fn run(file: &[u8], m: &mut [u32], allowed: u64) -> Reply
+    ensures answer { λ r. ⌜ r ≡ replyOf (runAnswer (now (file .entry)) (now (m .entry)) allowed) ⌝ }
+    ensures memory { λ r. ⌜ now (m .exit) ≡ runMemory (now (file .entry)) (now (m .entry)) allowed ⌝ }
+{
+    if let Answer::Refused {
+        question,
+        place,
+        item,
+    } = memory::check_memory(file, m) {
+        return Reply::Refused {
+            question,
+            place,
+            item,
+        };
+    }
+    Reply::Ended(machine::run(file, m, allowed))
+}
