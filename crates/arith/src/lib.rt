@@ -22,7 +22,7 @@ pub fn signed(a: u32) -> i32
 }
 
 // The word of an integer.
-fn bits(z: i32) -> u32
+pub fn bits(z: i32) -> u32
     ensures { λ r. ⌜ r ≡ wrap z ⌝ }
 {
     if 0 <= z {

@@ -1,5 +1,5 @@
 -- The code's answer of a run.
-use Prim.Native.Nat.{ℕ}
+use Prim.Native.Nat.{ℕ, _<_}
 use Rattle.semantics.specs.Run as run
 use Rattle.calls.specs.Answers.{Told, told, turned}
 use Rattle.machine.specs.Runs.{outcomeOf}
@@ -10,3 +10,8 @@ use Rattle.runs.specs.declared.Reply.the-variants.{Ended, Refused}
 unfoldable pub replyOf : Told run.Ran → Reply
 replyOf (told q) = Ended (record { outcome = outcomeOf (q .outcome); steps = q .steps })
 replyOf (turned question place item) = Refused question place item
+
+-- a place is a record of the longest file, and an item a variable
+abbrev pub SmallReply : Reply → Type 0
+SmallReply (Ended r) = Unit {0}
+SmallReply (Refused question place item) = (place < 4225) × (item < 64)

@@ -4,7 +4,7 @@ use machine::Ran;
 ghost use mathlib.Core.Path.{_≡_};
 ghost use Prim.Native.Nat.{_<_};
 ghost use Rattle.calls.specs.Answers.{runAnswer, runMemory};
-ghost use Rattle.runs.specs.Replies.{replyOf};
+ghost use Rattle.runs.specs.Replies.{replyOf, SmallReply};
 
 // What a run answers: how it ended, or why it was refused.
 pub enum Reply {
@@ -19,6 +19,7 @@ pub enum Reply {
 // Runs the file's procedure in the memory for so many steps: questions 1 to 16, and where all pass, rules of the machine.
 pub fn run(file: &[u8], m: &mut [u32], allowed: u64) -> Reply
     ensures answer { λ r. ⌜ r ≡ replyOf (runAnswer (now (file .entry)) (now (m .entry)) allowed) ⌝ }
+    ensures small { λ r. ⌜ SmallReply r ⌝ }
     ensures memory { λ r. ⌜ now (m .exit) ≡ runMemory (now (file .entry)) (now (m .entry)) allowed ⌝ }
 {
     if let Answer::Refused {
