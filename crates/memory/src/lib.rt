@@ -100,7 +100,10 @@ fn look_of(v: Value) -> Look
 {
     match v {
         Value::Nothing => Look::Nothing,
-        Value::Int(n) => Look::Int(arith::signed(n)),
+        Value::Int(n) => {
+            let z = arith::signed(n);
+            Look::Int(z)
+        }
         Value::Truth(b) => Look::Truth(b),
     }
 }

@@ -113,7 +113,12 @@ fn tell_run(answer: &mut [u64], r: Ran)
 
 // Runs the procedure in the memory for at most so many steps, where 0 is answered; a refusal leaves memory and answer as they were.
 #[no_mangle]
-pub extern "C" fn panelrue_run(file: &[u8], memory: &mut [u32], allowance: u64, answer: &mut [u64]) -> u64
+pub extern "C" fn panelrue_run(
+    file: &[u8],
+    memory: &mut [u32],
+    allowance: u64,
+    answer: &mut [u64],
+) -> u64
     ensures number { λ r. ⌜ r ≡ runNumber (replyOf (runAnswer (now (file .entry)) (now (memory .entry)) allowance)) ⌝ }
     ensures memory { λ r. ⌜ now (memory .exit) ≡ runMemory (now (file .entry)) (now (memory .entry)) allowance ⌝ }
     ensures told { λ r. ⌜ now (answer .exit) ≡ runWords (replyOf (runAnswer (now (file .entry)) (now (memory .entry)) allowance)) (now (answer .entry)) ⌝ }

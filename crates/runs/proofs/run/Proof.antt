@@ -1,3 +1,4 @@
+use Rattle.acceptance.specs.Answers.{Small}
 use mathlib.Core.Path.{_≡_, refl, sym, ap, _∙_}
 use Rattle.acceptance.specs.Answers.{says}
 use Rattle.runs.proofs.Runs.{run-refused, run-held, run-room, run-accepted}
@@ -24,7 +25,9 @@ same-length c = search needs
 -- src/lib.rt:29:9
 returns : tie.Need-returns
 unfolding says
-returns c = run-refused _ _ _ _ _ _ (sym (c .before .before .before .check-memory .ensures .0) ∙ ap says (c .before .question .given .1))
+returns c =
+    let q = run-refused _ _ _ _ _ _ (sym (c .before .before .before .check-memory .ensures .0) ∙ ap says (c .before .question .given .1)) in
+    (q .0, (rw (c .before .question .given .1) at (c .before .before .before .check-memory .ensures .1), q .1))
 
 enum-told : tie.Need-enum-told
 enum-told c = search needs
@@ -41,7 +44,9 @@ same-length-2 c = search needs
 -- src/lib.rt:20:1
 returns-2 : tie.Need-returns-2
 unfolding says
-returns-2 c = run-accepted _ _ _ (sym (c .before .before .before .before .before .before .check-memory .ensures .0) ∙ ap says (c .before .before .before .before .enum-told .given .1)) _ _ (c .before .before .run .ensures)
+returns-2 c =
+    let q = run-accepted _ _ _ (sym (c .before .before .before .before .before .before .check-memory .ensures .0) ∙ ap says (c .before .before .before .before .enum-told .given .1)) _ _ (c .before .before .run .ensures) in
+    (q .0, (tt, q .1))
 
 pub run-spec : {M : Type 1} → statement M
 run-spec =

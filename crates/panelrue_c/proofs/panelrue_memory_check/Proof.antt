@@ -1,0 +1,25 @@
+use mathlib.Core.Path.{_≡_, refl, sym, ap, _∙_}
+use native.Mathlib.Omega.{arith}
+use Rattle.panelrue_c.specs.Packed.{packed}
+use borrow.Author.Needs.{needs}
+use Rattle.panelrue_c.proofs.panelrue_memory_check.Statement.{statement}
+use Rattle.panelrue_c.proofs.panelrue_memory_check.Tie as tie
+use Rattle.panelrue_c.proofs.panelrue_memory_check.Reads as reads
+use Rattle.panelrue_c.proofs.panelrue_memory_check.Lts as lts
+use Rattle.memory.proofs.check_memory.Reads as check-memory-reads
+use Rattle.panelrue_c.proofs.number.Reads as number-reads
+
+-- src/lib.rt:70:12
+check-memory-requires : tie.Need-check-memory-requires
+check-memory-requires c κs = search needs
+
+-- src/lib.rt:70:5
+number-requires : tie.Need-number-requires
+number-requires c κs = search needs
+
+-- src/lib.rt:66:1
+returns : tie.Need-returns
+returns c = c .number .ensures ∙ ap packed (c .before .check-memory .ensures .0)
+
+pub panelrue-memory-check-spec : {M : Type 1} → statement M
+panelrue-memory-check-spec = tie.close (tie.spec check-memory-requires number-requires returns)

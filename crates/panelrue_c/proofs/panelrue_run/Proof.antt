@@ -1,0 +1,73 @@
+use mathlib.Core.Path.{_≡_, refl, sym, ap, _∙_}
+use native.Mathlib.Omega.{arith}
+use Rattle.panelrue_c.specs.Told.{outcomeNumber, outcomeWord, runNumber, runWords, bitOf, lookNumber, lookWords}
+use Rattle.runs.specs.Replies.{replyOf, SmallReply}
+use borrow.Author.Needs.{needs}
+use Rattle.panelrue_c.proofs.panelrue_run.Statement.{statement}
+use Rattle.panelrue_c.proofs.panelrue_run.Tie as tie
+use Rattle.panelrue_c.proofs.panelrue_run.Reads as reads
+use Rattle.panelrue_c.proofs.panelrue_run.Lts as lts
+use Rattle.panelrue_c.proofs.pack.Reads as pack-reads
+use Rattle.panelrue_c.proofs.tell_run.Reads as tell-run-reads
+use Rattle.runs.proofs.run.Reads as run-reads
+
+-- src/lib.rt:121:11
+run-requires : tie.Need-run-requires
+run-requires c κs = search needs
+
+-- src/lib.rt:122:22
+enum-known-r : tie.Need-enum-known-r
+enum-known-r c = search needs
+
+-- src/lib.rt:123:13
+tell-run-requires : tie.Need-tell-run-requires
+tell-run-requires c κs = search needs
+
+-- src/lib.rt:127:13
+enum-known-question : tie.Need-enum-known-question
+enum-known-question c = search needs
+
+-- src/lib.rt:130:14
+pack-requires : tie.Need-pack-requires
+pack-requires c κs = rw (c .before .question .given .1) at (c .before .before .before .before .before .run .ensures .1 .0)
+
+-- src/lib.rt:115:1
+same-length : tie.Need-same-length
+same-length c = search needs
+
+-- src/lib.rt:115:1
+same-length-2 : tie.Need-same-length-2
+same-length-2 c = search needs
+
+-- src/lib.rt:115:1
+returns : tie.Need-returns
+unfolding runNumber
+returns c =
+    let e = sym (c .before .before .before .before .before .before .before .before .before .run .ensures .0) ∙ c .before .before .before .before .before .r .given .1 in
+    (rw e, (c .before .before .before .before .before .before .before .before .before .run .ensures .1 .1, rw e (c .before .before .tell-run .ensures)))
+
+-- src/lib.rt:115:1
+same-length-3 : tie.Need-same-length-3
+same-length-3 c = search needs
+
+-- src/lib.rt:115:1
+returns-2 : tie.Need-returns-2
+unfolding runNumber runWords
+returns-2 c =
+    let e = sym (c .before .before .before .before .before .before .run .ensures .0) ∙ c .before .before .question .given .1 in
+    (rw e (c .pack .ensures), (c .before .before .before .before .before .before .run .ensures .1 .1, rw e))
+
+pub panelrue-run-spec : {M : Type 1} → statement M
+panelrue-run-spec =
+    tie.close
+    (tie.spec
+    run-requires
+    enum-known-r
+    tell-run-requires
+    enum-known-question
+    pack-requires
+    same-length
+    same-length-2
+    returns
+    same-length-3
+    returns-2)

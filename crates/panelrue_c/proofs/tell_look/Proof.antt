@@ -1,0 +1,32 @@
+use mathlib.Core.Path.{_≡_, refl, sym, ap, _∙_}
+use native.Mathlib.Omega.{arith}
+use borrow.Author.Tests.{le-leb, lt-leb}
+use borrow.Author.Needs.{needs}
+use Rattle.panelrue_c.proofs.tell_look.Statement.{statement}
+use Rattle.panelrue_c.proofs.tell_look.Tie as tie
+use Rattle.panelrue_c.proofs.tell_look.Reads as reads
+use Rattle.panelrue_c.proofs.tell_look.Lts as lts
+
+-- src/lib.rt:139:9
+returns : tie.Need-returns
+returns c = rw (lt-leb 2 _ (c .if1 .taken))
+
+-- src/lib.rt:141:5
+slice-write-answer : tie.Need-slice-write-answer
+slice-write-answer c = search needs
+
+-- src/lib.rt:142:5
+slice-write-answer-2 : tie.Need-slice-write-answer-2
+slice-write-answer-2 c = search needs
+
+-- src/lib.rt:135:1
+same-length : tie.Need-same-length
+same-length c = search needs
+
+-- src/lib.rt:135:1
+returns-2 : tie.Need-returns-2
+returns-2 c = rw (le-leb 2 _ (c .if1 .left))
+
+pub tell-look-spec : {M : Type 1} → statement M
+tell-look-spec =
+    tie.close (tie.spec returns slice-write-answer slice-write-answer-2 same-length returns-2)
