@@ -40,12 +40,12 @@ fn answer_in(file: &[u8], q: u8, f: usize, part: &[u8], n: usize) -> Found
     match q {
         7 => shape::first_node(file, f, part, n, 7),
         8 => shape::first_node(file, f, part, n, 8),
-        9 => shape::first_misplaced(part, n),
+        9 => sorts::first_misplaced(part, n),
         10 => scopes::first_undeclared(file, f, part, n),
         11 => scopes::first_outside(file, f, part, n),
         12 => typing::first_mistyped(file, f, part, n),
         13 => flow::first_lacking(file, f, part, n),
-        14 => flow::not_returning(part, n),
+        14 => returns::not_returning(part, n),
         _ => Found::Nothing,
     }
 }

@@ -1,4 +1,6 @@
 // The walk down an activation's frames, from what stands over them.
+use flowfacts::returning;
+use flowfacts::through;
 use frames::Down;
 use frames::Next;
 use frames::bare;
@@ -9,8 +11,6 @@ use nodefacts::is_constant;
 use nodefacts::is_expression;
 use nodefacts::is_statement;
 use nodefacts::reads_held;
-use nodefacts::returning;
-use nodefacts::through;
 use store::Control;
 use store::Ref;
 use store::Value;

@@ -1,8 +1,8 @@
 // What a statement reads and sets, from what its parts do: questions 13 and 14 without a walk over the whole body.
-use records::b_at;
-use records::kind_at;
+use node_records::b_at;
+use node_records::kind_at;
+use node_records::size_at;
 use records::minus;
-use records::size_at;
 use varset::VarSet;
 ghost use mathlib.Core.Path.{_≡_};
 ghost use mathlib.Core.Bool.{true};

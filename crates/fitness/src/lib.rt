@@ -1,4 +1,5 @@
 // Whether the state that a memory holds is fit for an accepted file's program.
+use activation_words::activation_word;
 use descent::begin;
 use descent::frames_fit;
 use frames::Next;
@@ -12,7 +13,6 @@ use records::result_of;
 use records::vars_of;
 use records::wide;
 use store::Control;
-use store::activation_word;
 use store::control_of;
 use varset::VarSet;
 ghost use mathlib.Core.Path.{_≡_};

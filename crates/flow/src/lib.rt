@@ -1,12 +1,12 @@
 // Questions 13 and 14: every variable read has a value, and every body returns.
+use node_records::b_at;
+use node_records::kind_at;
+use node_records::prior;
+use node_records::size_at;
 use records::Found;
-use records::b_at;
-use records::kind_at;
 use records::minus;
 use records::or_else;
 use records::params_of;
-use records::prior;
-use records::size_at;
 use records::wide;
 use varset::VarSet;
 ghost use mathlib.Core.Path.{_≡_};
@@ -17,9 +17,8 @@ ghost use lib.Dec.{eqb};
 ghost use lib.ListN.{length};
 ghost use Rattle.varset.specs.Sets.{Set, has, none, without, below};
 ghost use Rattle.records.specs.Fields.{paramsOf, kindAt, bAt};
-ghost use Rattle.records.specs.Search.{unless};
 ghost use Rattle.language.specs.Statements.{Statement, Seq, Decl, If, While, statementAt, Read, readsOf};
-ghost use Rattle.language.specs.Flow.{leaves, missing, lacks, returns};
+ghost use Rattle.language.specs.Flow.{leaves, missing, lacks};
 ghost use Rattle.language.specs.Known.{Known};
 ghost use Rattle.flow.specs.Follows.{Follows};
 
@@ -184,43 +183,4 @@ pub fn first_lacking(file: &[u8], f: usize, part: &[u8], n: usize) -> Found
 {
     let r = flow_from(part, n, n - 1, VarSet::below(wide(params_of(file, f))));
     r.found
-}
-
-// Whether the statement at node i returns.
-pub fn returns_from(part: &[u8], n: usize, i: usize) -> bool
-    requires inside { ⌜ (12 * n ≤ length (now part)) × (i < n) ⌝ }
-    requires known { ⌜ Known (now part) n ⌝ }
-    ensures { λ r. ⌜ r ≡ returns (statementAt (now (part .entry)) i) ⌝ }
-{
-    let kind = kind_at(part, i);
-    match kind {
-        7 => {
-            let b = i - 1;
-            let a = prior(part, b);
-            let first = returns_from(part, n, a);
-            first | returns_from(part, n, b)
-        }
-        9 => returns_from(part, n, i - 1),
-        10 => {
-            let b = i - 1;
-            let a = prior(part, b);
-            let first = returns_from(part, n, a);
-            first & returns_from(part, n, b)
-        }
-        12 => true,
-        _ => false,
-    }
-}
-
-// Nothing where the body of a part of n nodes returns, else the function.
-pub fn not_returning(part: &[u8], n: usize) -> Found
-    requires inside { ⌜ (12 * n ≤ length (now part)) × (1 ≤ n) ⌝ }
-    requires known { ⌜ Known (now part) n ⌝ }
-    ensures { λ r. ⌜ r ≡ unless (returns (statementAt (now (part .entry)) (n - 1))) 0 ⌝ }
-{
-    if returns_from(part, n, n - 1) {
-        Found::Nothing
-    } else {
-        Found::At(0, 0)
-    }
 }

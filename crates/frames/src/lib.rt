@@ -1,7 +1,8 @@
 // The frames of an activation, one by one: whether each suits what comes down to it, and what it hands on.
+use flowfacts::returning;
+use flowfacts::through;
+use frame_words::frame_word;
 use nodefacts::is_statement;
-use nodefacts::returning;
-use nodefacts::through;
 use nodefacts::variable_type;
 use operands::gathers;
 use operands::node_suits;
@@ -12,7 +13,6 @@ use records::result_of;
 use records::vars_of;
 use records::wide;
 use store::Ref;
-use store::frame_word;
 use store::ref_of;
 use typing::operator_type;
 use varset::VarSet;

@@ -13,7 +13,7 @@ use Rattle.language.specs.Sorts.{isExpression, wantsExpression}
 use Rattle.language.specs.Scopes.{usesVariable}
 use Rattle.language.specs.Types.{operatorType, typesOf, typeAt, wantsOf, wantAt}
 use Rattle.language.specs.Nodes.{outside}
-use Rattle.onepass.specs.Judged.{Leaf, Operator, Single}
+use Rattle.judge.specs.Judged.{Leaf, Operator, Single}
 
 module _ (s : List ℕ) (f : ℕ) (t : List ℕ) (n i : ℕ) where
   pub int-leaf : kindAt t i ≡ 0 → Leaf s f t n i 1

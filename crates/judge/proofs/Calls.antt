@@ -20,8 +20,8 @@ use Rattle.language.specs.Types.{paramType, typesOf, typeAt, wantsOf, wantAt}
 use Rattle.language.specs.Nodes.{total, outside}
 use Rattle.language.proofs.Trees.{statement-rest}
 use Rattle.effects.proofs.Parts.{nop-means}
-use Rattle.onepass.specs.Judged.{Kid, Kids, Judged, Filled}
-use Rattle.onepass.proofs.Kids.{positive, kid-typed, suits-same}
+use Rattle.judge.specs.Judged.{Kid, Kids, Judged, Filled}
+use Rattle.judge.proofs.Kids.{positive, kid-typed, suits-same}
 
 param-small : (s : List ℕ) (f k : ℕ) → paramType s f k < 3
 unfolding paramType

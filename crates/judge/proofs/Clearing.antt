@@ -16,7 +16,7 @@ use Rattle.language.proofs.Facts.{named, arguments, calls}
 use Rattle.language.proofs.Accept.{all-pass, pass-all, none-fails, none-unless, seven-to-fourteen}
 use Rattle.scopes.specs.Counts.{Named, Decls}
 use Rattle.shape.specs.Failing.{fails}
-use Rattle.onepass.specs.Judged.{Part}
+use Rattle.judge.specs.Judged.{Part}
 use Rattle.judge.specs.Passed.{Passed, Clear}
 
 module _ (s : List ℕ) (f : ℕ) (t : List ℕ) (n : ℕ) where

@@ -18,7 +18,7 @@ use Rattle.language.specs.Types.{typeAt, wantAt, agree}
 use Rattle.language.specs.Nodes.{sizeOk, wrongChild, some, misplaced, mistyped}
 use Rattle.effects.specs.Effects.{Sub, Means}
 use Rattle.effects.proofs.Parts.{empty-member}
-use Rattle.onepass.specs.Judged.{Kids, Judged, Filled}
+use Rattle.judge.specs.Judged.{Kids, Judged, Filled}
 use Rattle.judge.specs.Passed.{Passed}
 
 judged-more : {s : List ℕ} {f : ℕ} {t : List ℕ} {n : ℕ} {d d′ : Set} {k c r w : ℕ} → Sub d d′ → Judged s f t n d k c r w → Judged s f t n d′ k c r w

@@ -1,3 +1,5 @@
+pub mod Kids
+pub mod Judging
 pub mod Calls
 pub mod ByKind
 pub mod Filling

@@ -1,16 +1,16 @@
 // The pass over the nodes of a part, kind by kind, and over the parts of a file: passed, or not known.
+mod nodes;
+
 use effects::Effect;
 use effects::plain;
-use onepass::fits;
-use onepass::guard;
+use node_records::a_at;
+use node_records::b_at;
+use node_records::kind_at;
+use node_records::size_at;
 use records::Found;
-use records::a_at;
-use records::b_at;
-use records::kind_at;
 use records::minus;
 use records::params_of;
 use records::result_of;
-use records::size_at;
 use records::wide;
 use varset::VarSet;
 ghost use mathlib.Core.Path.{_≡_};
@@ -21,7 +21,7 @@ ghost use Rattle.varset.specs.Sets.{Set, has};
 ghost use Rattle.records.specs.Fields.{functions, kindAt};
 ghost use Rattle.records.specs.Parts.{Laid};
 ghost use Rattle.judge.specs.Passed.{Passed, Clear};
-ghost use Rattle.onepass.specs.Judged.{Judged, Filled, Part, Ready};
+ghost use Rattle.judge.specs.Judged.{Judged, Filled, Part, Ready};
 
 // A call.
 fn call_at(
@@ -53,8 +53,8 @@ fn call_at(
         c = minus(c, size);
     }
     let found = result_of(file, callee);
-    let passes = (found < 3) & fits(part, i, sum);
-    guard(passes, plain(found, VarSet::empty(), VarSet::empty()))
+    let passes = (found < 3) & nodes::fits(part, i, sum);
+    nodes::guard(passes, plain(found, VarSet::empty(), VarSet::empty()))
 }
 
 // A node of any kind.
@@ -76,25 +76,25 @@ fn node_at(
     let kind = kind_at(part, i);
     let t = result_of(file, f);
     match kind {
-        0 => onepass::leaf_at(file, f, part, n, decls, codes, reads, sets, seen, i, 1),
-        1 => onepass::leaf_at(file, f, part, n, decls, codes, reads, sets, seen, i, 2),
-        2 => onepass::variable_at(file, f, part, n, decls, codes, reads, sets, seen, i),
+        0 => nodes::leaf_at(file, f, part, n, decls, codes, reads, sets, seen, i, 1),
+        1 => nodes::leaf_at(file, f, part, n, decls, codes, reads, sets, seen, i, 2),
+        2 => nodes::variable_at(file, f, part, n, decls, codes, reads, sets, seen, i),
         3 => {
             let t = typing::operator_type(a_at(part, i));
-            onepass::operator_at(file, f, part, n, decls, codes, reads, sets, seen, i, 1, t)
+            nodes::operator_at(file, f, part, n, decls, codes, reads, sets, seen, i, 1, t)
         }
-        4 => onepass::operator_at(file, f, part, n, decls, codes, reads, sets, seen, i, 2, 2),
+        4 => nodes::operator_at(file, f, part, n, decls, codes, reads, sets, seen, i, 2, 2),
         5 => call_at(file, f, part, n, decls, codes, reads, sets, seen, i),
-        6 => onepass::leaf_at(file, f, part, n, decls, codes, reads, sets, seen, i, 3),
-        7 => onepass::sequence_at(file, f, part, n, decls, codes, reads, sets, seen, i),
-        8 => onepass::assign_at(file, f, part, n, decls, codes, reads, sets, seen, i),
-        9 => onepass::scope_at(file, f, part, n, decls, codes, reads, sets, seen, i),
-        10 => onepass::branches_at(file, f, part, n, decls, codes, reads, sets, seen, i),
-        11 => onepass::loop_at(file, f, part, n, decls, codes, reads, sets, seen, i),
-        12 => onepass::single_at(file, f, part, n, decls, codes, reads, sets, seen, i, t, 4),
-        13 => onepass::single_at(file, f, part, n, decls, codes, reads, sets, seen, i, 2, 3),
-        14 => onepass::single_at(file, f, part, n, decls, codes, reads, sets, seen, i, 254, 3),
-        15 => onepass::leaf_at(file, f, part, n, decls, codes, reads, sets, seen, i, 0),
+        6 => nodes::leaf_at(file, f, part, n, decls, codes, reads, sets, seen, i, 3),
+        7 => nodes::sequence_at(file, f, part, n, decls, codes, reads, sets, seen, i),
+        8 => nodes::assign_at(file, f, part, n, decls, codes, reads, sets, seen, i),
+        9 => nodes::scope_at(file, f, part, n, decls, codes, reads, sets, seen, i),
+        10 => nodes::branches_at(file, f, part, n, decls, codes, reads, sets, seen, i),
+        11 => nodes::loop_at(file, f, part, n, decls, codes, reads, sets, seen, i),
+        12 => nodes::single_at(file, f, part, n, decls, codes, reads, sets, seen, i, t, 4),
+        13 => nodes::single_at(file, f, part, n, decls, codes, reads, sets, seen, i, 2, 3),
+        14 => nodes::single_at(file, f, part, n, decls, codes, reads, sets, seen, i, 254, 3),
+        15 => nodes::leaf_at(file, f, part, n, decls, codes, reads, sets, seen, i, 0),
         _ => plain(255, VarSet::empty(), VarSet::empty()),
     }
 }
@@ -138,7 +138,7 @@ fn passes(
         i += 1;
     }
     let last = n - 1;
-    let body = onepass::effect_of(codes, reads, sets, last);
+    let body = nodes::effect_of(codes, reads, sets, last);
     let late = body.reads;
     (body.code == 4) & (size_at(part, last) == n) & effects::is_empty(late.minus(begun))
 }

@@ -72,9 +72,9 @@ fn put_back(m: &mut [u32], c: Control, h: Head)
     let frames = h.frames as u32;
     match c {
         Control::Val(v) => match v {
-            Value::Nothing => callstack::store_head(m, a, callers, frames, 1, 0),
-            Value::Int(word) => callstack::store_head(m, a, callers, frames, 2, word),
-            Value::Truth(truth) => callstack::store_head(
+            Value::Nothing => heads::store_head(m, a, callers, frames, 1, 0),
+            Value::Int(word) => heads::store_head(m, a, callers, frames, 2, word),
+            Value::Truth(truth) => heads::store_head(
                 m,
                 a,
                 callers,
@@ -83,8 +83,8 @@ fn put_back(m: &mut [u32], c: Control, h: Head)
                 store::bit_of(truth),
             ),
         },
-        Control::Eval(i) => callstack::store_head(m, a, callers, frames, 4, i),
-        Control::Exec(r) => callstack::store_head(m, a, callers, frames, 5, store::ref_word(r)),
+        Control::Eval(i) => heads::store_head(m, a, callers, frames, 4, i),
+        Control::Exec(r) => heads::store_head(m, a, callers, frames, 5, store::ref_word(r)),
     }
 }
 
@@ -193,8 +193,8 @@ fn begin(file: &[u8], m: &mut [u32], allowed: u64) -> Ran
     let count = count_of(file, 0);
     m[0] = 0;
     m[1] = 0;
-    callstack::enter_main(m, 0, wide(vars_of(file, 0)));
-    let c = Control::Exec(transitions::body_of(file, start, count));
+    heads::enter_main(m, 0, wide(vars_of(file, 0)));
+    let c = Control::Exec(calling::body_of(file, start, count));
     let h = Head {
         function: 0,
         start,
@@ -214,8 +214,8 @@ fn proceed(file: &[u8], m: &mut [u32], allowed: u64) -> Ran
     let starts = starts_of(file);
     let callers = m[2] as usize - 1;
     let c = store::control_of(m[3], m[4]);
-    let function = store::activation_word(m, callers, 0) as usize;
-    let frames = store::activation_word(m, callers, 1) as usize;
+    let function = activation_words::activation_word(m, callers, 0) as usize;
+    let frames = activation_words::activation_word(m, callers, 1) as usize;
     let total = canonical::frames_held(m, callers + 1);
     let h = Head {
         function,
@@ -225,7 +225,7 @@ fn proceed(file: &[u8], m: &mut [u32], allowed: u64) -> Ran
         frames,
         under: total - frames,
     };
-    callstack::clear_head(m, callers);
+    heads::clear_head(m, callers);
     go(file, &starts, m, c, h, 0, allowed)
 }
 

@@ -81,7 +81,7 @@ fn has_variable(m: &[u32], x: u32) -> bool
         return false;
     }
     let a = m[2] as usize - 1;
-    x < store::activation_word(m, a, 2)
+    x < activation_words::activation_word(m, a, 2)
 }
 
 // What the current activation's variable x holds.
@@ -90,7 +90,7 @@ fn value_in(m: &[u32], x: u32) -> Value
     ensures { λ r. ⌜ valueIs r ≡ valueOr (lookUp (stateOf (now (m .entry))) x) ⌝ }
 {
     let a = m[2] as usize - 1;
-    store::variable(m, a, x as usize)
+    activation_words::variable(m, a, x as usize)
 }
 
 // The answer that tells a value.

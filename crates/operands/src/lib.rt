@@ -1,8 +1,8 @@
 // The operands that a frame gathers: values and nodes in its slots, held to the types wanted.
+use frame_words::frame_word;
 use nodefacts::expression_type;
 use nodefacts::is_expression;
 use nodefacts::reads_held;
-use store::frame_word;
 use varset::VarSet;
 ghost use mathlib.Core.Path.{_≡_};
 ghost use Prim.Native.Nat.{ℕ, _+_, _*_, _-_, _≤_, _<_};

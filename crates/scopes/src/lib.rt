@@ -1,9 +1,9 @@
 // Questions 10 and 11: each variable is declared once, and used under its decl.
+use node_records::b_at;
+use node_records::kind_at;
+use node_records::size_at;
 use records::Found;
-use records::b_at;
-use records::kind_at;
 use records::params_of;
-use records::size_at;
 use records::vars_of;
 use records::wide;
 use varset::VarSet;

@@ -1,9 +1,9 @@
 // One step of a running state in lent memory: the rule by the control, the top frame and the node's kind.
 use arith::Applied;
-use records::a_at;
-use records::b_at;
-use records::kind_at;
-use records::prior;
+use node_records::a_at;
+use node_records::b_at;
+use node_records::kind_at;
+use node_records::prior;
 use records::wide;
 use store::Control;
 use store::Ref;
@@ -47,8 +47,8 @@ fn next_operand(part: &[u8], m: &mut [u32], h: Head, y: u32, z: u32, v: Value) -
     ensures { λ r. ⌜ ((s : List ℕ) (f : ℕ) (η : List values.Value) (g : program.Head) (vs : List values.Value) (e : ℕ) (ns : List ℕ) (K : List Frame) (A : List Saved) (R : List ℕ) → now (m .entry) ≡ core f η (machine.gather g vs (e ∷ ns) ∷ K) A ++ R → Tells s h f (machine.gather g vs (e ∷ ns) ∷ K) A → length vs + suc (length ns) ≤ 7 → y ≡ length vs → z ≡ suc (length ns) → Comes s r (now (m .entry)) (now (m .exit)) R (running (reachL e (lookAt (now (part .entry)) e)) calm f η (machine.gather g (vs ++ (valueIs v ∷ [])) ns ∷ K) A)) ⌝ }
 {
     let frames = h.frames - 1;
-    let e = store::frame_word(m, h.under + frames, 4 + y as usize * 2);
-    transitions::supply(m, h, y, z - 1, v, transitions::reach(part, e))
+    let e = frame_words::frame_word(m, h.under + frames, 4 + y as usize * 2);
+    transitions::supply(m, h, y, z - 1, v, gathering::reach(part, e))
 }
 
 // Ends the run by an exception, with all words of the state zero.
@@ -56,7 +56,7 @@ fn raise(m: &mut [u32], exception: Stepped) -> Stepped
     requires { ⌜ 16384 ≤ length (now m) ⌝ }
     ensures { λ r. ⌜ (r ≡ exception) × ((f : ℕ) (η : List values.Value) (K : List Frame) (A : List Saved) (R : List ℕ) → now (m .entry) ≡ core f η K A ++ R → length A < 32 → length (K ++ savedFrames A) ≤ 512 → Cleared (now (m .exit)) R) ⌝ }
 {
-    transitions::clear(m, 16384);
+    calling::clear(m, 16384);
     exception
 }
 
@@ -70,7 +70,7 @@ fn operate(file: &[u8], m: &mut [u32], h: Head, o: u32, v: Value) -> Stepped
         return unreachable();
     };
     let frames = h.frames - 1;
-    let Value::Int(a) = store::slot_value(m, h.under + frames, 0) else {
+    let Value::Int(a) = frame_words::slot_value(m, h.under + frames, 0) else {
         return unreachable();
     };
     match arith::apply(file[8], o as u8, a, b) {
@@ -121,9 +121,9 @@ fn depart(file: &[u8], starts: &[usize; 128], m: &mut [u32], h: Head, v: Value) 
         let Value::Int(word) = v else {
             return unreachable();
         };
-        return transitions::leave_main(m, h, word);
+        return calling::leave_main(m, h, word);
     }
-    transitions::leave(file, starts, m, h, v)
+    calling::leave(file, starts, m, h, v)
 }
 
 // The statement at node i; nop is one and the same.
@@ -165,9 +165,9 @@ fn call(
     let g = b_at(part, i);
     let k = wide(a_at(part, i));
     if k == 0 {
-        return transitions::enter_none(file, starts, m, h, g);
+        return calling::enter_none(file, starts, m, h, g);
     }
-    transitions::gather(part, m, h, 2, g, k, i - 1)
+    gathering::gather(part, m, h, 2, g, k, i - 1)
 }
 
 // Evaluates the expression at node i.
@@ -184,7 +184,7 @@ fn open(file: &[u8], starts: &[usize; 128], part: &[u8], m: &mut [u32], h: Head,
             let v = callstack::variable(m, callers, x);
             Stepped::Went(Control::Val(v), h)
         }
-        3 => transitions::gather(part, m, h, 1, wide(a_at(part, at)), 2, at - 1),
+        3 => gathering::gather(part, m, h, 1, wide(a_at(part, at)), 2, at - 1),
         4 => {
             let last = at - 1;
             let first = prior(part, last);
@@ -194,7 +194,7 @@ fn open(file: &[u8], starts: &[usize; 128], part: &[u8], m: &mut [u32], h: Head,
                 3,
                 last as u32,
                 0,
-                transitions::reach(part, first as u32),
+                gathering::reach(part, first as u32),
             )
         }
         5 => call(file, starts, part, m, h, at),
@@ -243,7 +243,7 @@ fn execute_node(part: &[u8], m: &mut [u32], h: Head, i: u32) -> Stepped
             5,
             b_at(part, at),
             0,
-            transitions::reach(part, last as u32),
+            gathering::reach(part, last as u32),
         ),
         9 => transitions::put(
             m,
@@ -257,7 +257,7 @@ fn execute_node(part: &[u8], m: &mut [u32], h: Head, i: u32) -> Stepped
             let condition = prior(part, first);
             let x = ref_word_at(part, first);
             let y = ref_word_at(part, last);
-            transitions::lay(m, h, 6, x, y, transitions::reach(part, condition as u32))
+            transitions::lay(m, h, 6, x, y, gathering::reach(part, condition as u32))
         }
         11 => Stepped::Went(Control::Exec(Ref::IfOf(i)), h),
         12..=14 => transitions::lay(
@@ -266,7 +266,7 @@ fn execute_node(part: &[u8], m: &mut [u32], h: Head, i: u32) -> Stepped
             wide(kind) - 5,
             0,
             0,
-            transitions::reach(part, last as u32),
+            gathering::reach(part, last as u32),
         ),
         _ => unreachable(),
     }
@@ -288,7 +288,7 @@ fn execute_loop(part: &[u8], m: &mut [u32], h: Head, w: u32, inner: bool) -> Ste
         6,
         3 + 3 * w,
         0,
-        transitions::reach(part, condition as u32),
+        gathering::reach(part, condition as u32),
     )
 }
 
@@ -329,12 +329,12 @@ fn give(
         }
         Top::Call(g, y, z) => {
             if z == 0 {
-                return transitions::enter(file, starts, m, h, g, y as usize, v);
+                return calling::enter(file, starts, m, h, g, y as usize, v);
             }
             next_operand(part, m, h, y, z, v)
         }
         Top::And(l) => {
-            let c = transitions::reach(part, l);
+            let c = gathering::reach(part, l);
             choose(m, h, v, c, Control::Val(Value::Truth(false)))
         }
         Top::Wait(r) => Stepped::Full,

@@ -1,5 +1,5 @@
 // The top frame of a running state: read as a view, and laid with the nodes of operands that wait.
-use records::prior;
+use node_records::prior;
 use store::Ref;
 ghost use mathlib.Core.Path.{_≡_};
 ghost use mathlib.Core.List.{List, [], _∷_, _++_};
@@ -64,7 +64,7 @@ pub fn push_gather(
     requires { ⌜ (16384 ≤ length (now m)) × (n < 512) × (1 ≤ k) × (k ≤ 8) × (12 * last + 12 ≤ length (now part)) × (last < 4096) ⌝ }
     ensures { λ r. ⌜ (r ≤ last) × ((f : ℕ) (η : List Value) (h : Head) (e : ℕ) (ns : List ℕ) (K : List Frame) (A : List Saved) (R : List ℕ) → now (m .entry) ≡ core f η K A ++ R → length A < 32 → n ≡ length (K ++ savedFrames A) → ((z : ℕ) → z ≤ 7 → frameWords (gather h [] (replicate z 0)) ≡ filled 20 (kind ∷ x ∷ 0 ∷ z ∷ [])) → backwards (walk (sizeAt (now (part .entry))) k last) [] ≡ e ∷ ns → (r ≡ e) × (now (m .exit) ≡ core f η (gather h [] ns ∷ K) A ++ R)) ⌝ }
 {
-    store::put_frame(m, n, kind, x, 0, k - 1);
+    frame_words::put_frame(m, n, kind, x, 0, k - 1);
     let mut j = k as usize - 1;
     let mut c = last;
     while 0 < j {

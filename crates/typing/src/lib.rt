@@ -1,13 +1,13 @@
 // Question 12: the type of each node, and the types that nodes want.
+use node_records::a_at;
+use node_records::arity_at;
+use node_records::b_at;
+use node_records::kind_at;
+use node_records::prior;
 use records::Found;
-use records::a_at;
-use records::arity_at;
-use records::b_at;
-use records::kind_at;
 use records::mask_of;
 use records::minus;
 use records::params_of;
-use records::prior;
 use records::result_of;
 use records::wide;
 ghost use mathlib.Core.Path.{_≡_};

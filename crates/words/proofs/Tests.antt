@@ -42,13 +42,6 @@ pub eq-same : (a : List ℕ) → eqWords a a ≡ true
 eq-same [] = refl
 eq-same (x ∷ a) = rw (eq-eqb x x refl) (eq-same a)
 
--- lists of two lengths are not the same
-pub same-length : (a b : List ℕ) → (length a ≡ length b → ⊥) → eqWords a b ≡ false
-same-length [] [] n = absurd (n refl)
-same-length [] (y ∷ b) n = refl
-same-length (x ∷ a) [] n = refl
-same-length (x ∷ a) (y ∷ b) n = rw (same-length a b (λ e. n (ap suc e))) (and-false (eqb x y))
-
 -- ---- the loops that go over words from the first on
 
 module _ (l : List ℕ) (i : ℕ) (h : i < length l) where
@@ -57,13 +50,6 @@ module _ (l : List ℕ) (i : ℕ) (h : i < length l) where
 
   pub zero-less : (getD l i 0 ≡ 0 → ⊥) → allZero (drop i l) ≡ false
   zero-less n = rw (drop-cons l i 0 h, ne-eqb (getD l i 0) 0 n)
-
-module _ (a b : List ℕ) (i : ℕ) (ha : i < length a) (hb : i < length b) where
-  pub same-more : getD a i 0 ≡ getD b i 0 → eqWords (drop i a) (drop i b) ≡ eqWords (drop (i + 1) a) (drop (i + 1) b)
-  same-more e = rw (add-one, drop-cons a i 0 ha, drop-cons b i 0 hb, eq-eqb (getD a i 0) (getD b i 0) e)
-
-  pub same-less : (getD a i 0 ≡ getD b i 0 → ⊥) → eqWords (drop i a) (drop i b) ≡ false
-  same-less n = rw (drop-cons a i 0 ha, drop-cons b i 0 hb, ne-eqb (getD a i 0) (getD b i 0) n)
 
 -- ---- eight words at a time
 

@@ -2,10 +2,10 @@
 ghost use mathlib.Core.Path.{_≡_};
 ghost use Prim.Native.Nat.{_+_, _≤_};
 ghost use lib.ListN.{take, drop, length, replicate};
-ghost use Rattle.words.specs.Blocks.{puts, allZero, eqWords};
+ghost use Rattle.words.specs.Blocks.{puts, allZero};
 
 // Sets every word to zero.
-pub fn zero(s: &mut [u32])
+fn zero(s: &mut [u32])
     ensures { λ _. ⌜ now (s .exit) ≡ replicate (length (now (s .entry))) 0 ⌝ }
 {
     let mut done = 0;
@@ -73,21 +73,4 @@ pub fn all_zero(s: &[u32]) -> bool
         at += 8;
     }
     each_zero(&s[at..])
-}
-
-// Whether two lists have the same words.
-pub fn same_words(a: &[u32], b: &[u32]) -> bool
-    ensures { λ r. ⌜ r ≡ eqWords (now (a .entry)) (now (b .entry)) ⌝ }
-{
-    if a.len() != b.len() {
-        return false;
-    }
-    let mut i = 0;
-    while i < a.len() {
-        if a[i] != b[i] {
-            return false;
-        }
-        i += 1;
-    }
-    true
 }

@@ -7,7 +7,7 @@ use Rattle.callstack.proofs.push.Statement.{statement}
 use Rattle.callstack.proofs.push.Tie as tie
 use Rattle.callstack.proofs.push.Reads as reads
 use Rattle.callstack.proofs.push.Lts as lts
-use Rattle.store.proofs.put_frame.Reads as put-frame-reads
+use Rattle.frame_words.proofs.put_frame.Reads as put-frame-reads
 
 -- src/lib.rt:18:5
 put-frame-requires : tie.Need-put-frame-requires

@@ -6,7 +6,7 @@ use Rattle.callstack.proofs.set_variable.Statement.{statement}
 use Rattle.callstack.proofs.set_variable.Tie as tie
 use Rattle.callstack.proofs.set_variable.Reads as reads
 use Rattle.callstack.proofs.set_variable.Lts as lts
-use Rattle.store.proofs.put_variable.Reads as put-variable-reads
+use Rattle.activation_words.proofs.put_variable.Reads as put-variable-reads
 
 -- src/lib.rt:42:5
 put-variable-requires : tie.Need-put-variable-requires

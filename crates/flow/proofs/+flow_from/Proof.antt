@@ -18,9 +18,9 @@ use Rattle.flow.proofs.in_loop.Reads as in-loop-reads
 use Rattle.flow.proofs.in_scope.Reads as in-scope-reads
 use Rattle.flow.proofs.in_sequence.Reads as in-sequence-reads
 use Rattle.flow.proofs.plain.Reads as plain-reads
-use Rattle.records.proofs.b_at.Reads as b-at-reads
-use Rattle.records.proofs.kind_at.Reads as kind-at-reads
-use Rattle.records.proofs.prior.Reads as prior-reads
+use Rattle.node_records.proofs.b_at.Reads as b-at-reads
+use Rattle.node_records.proofs.kind_at.Reads as kind-at-reads
+use Rattle.node_records.proofs.prior.Reads as prior-reads
 use Rattle.varset.proofs.VarSet.insert.Reads as insert-reads
 use Rattle.varset.proofs.VarSet.remove.Reads as remove-reads
 use Rattle.flow.proofs.+flow_from.{statement}

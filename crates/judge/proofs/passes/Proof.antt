@@ -6,7 +6,7 @@ use mathlib.Core.Path.{_≡_, refl}
 use lib.ListN.{length}
 use Prim.Native.Nat.{_-_, _≤_}
 use Rattle.judge.proofs.Filling.{filled-none, filled-more, filled-next, all-pass, kept-length}
-use Rattle.onepass.specs.Judged.{Filled}
+use Rattle.judge.specs.Judged.{Filled}
 use borrow.Author.Needs.{needs}
 use native.Mathlib.Omega.{arith}
 use Rattle.judge.proofs.passes.Statement.{statement}

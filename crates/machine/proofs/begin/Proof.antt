@@ -12,13 +12,13 @@ use Rattle.machine.proofs.begin.Statement.{statement}
 use Rattle.machine.proofs.begin.Tie as tie
 use Rattle.machine.proofs.begin.Reads as reads
 use Rattle.machine.proofs.begin.Lts as lts
-use Rattle.callstack.proofs.enter_main.Reads as enter-main-reads
+use Rattle.heads.proofs.enter_main.Reads as enter-main-reads
 use Rattle.machine.proofs.go.Reads as go-reads
 use Rattle.machine.proofs.starts_of.Reads as starts-of-reads
 use Rattle.records.proofs.count_of.Reads as count-of-reads
 use Rattle.records.proofs.vars_of.Reads as vars-of-reads
 use Rattle.records.proofs.wide.Reads as wide-reads
-use Rattle.transitions.proofs.body_of.Reads as body-of-reads
+use Rattle.calling.proofs.body_of.Reads as body-of-reads
 
 -- src/lib.rt:171:9
 returns : tie.Need-returns

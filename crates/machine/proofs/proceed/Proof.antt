@@ -13,12 +13,12 @@ use Rattle.machine.proofs.proceed.Statement.{statement}
 use Rattle.machine.proofs.proceed.Tie as tie
 use Rattle.machine.proofs.proceed.Reads as reads
 use Rattle.machine.proofs.proceed.Lts as lts
-use Rattle.callstack.proofs.clear_head.Reads as clear-head-reads
+use Rattle.heads.proofs.clear_head.Reads as clear-head-reads
 use Rattle.canonical.proofs.frames_held.Reads as frames-held-reads
 use Rattle.machine.proofs.go.Reads as go-reads
 use Rattle.machine.proofs.starts_of.Reads as starts-of-reads
 use Rattle.records.proofs.count_of.Reads as count-of-reads
-use Rattle.store.proofs.activation_word.Reads as activation-word-reads
+use Rattle.activation_words.proofs.activation_word.Reads as activation-word-reads
 use Rattle.store.proofs.control_of.Reads as control-of-reads
 
 -- src/lib.rt:199:18

@@ -8,7 +8,7 @@ use Rattle.machine.proofs.put_back.Statement.{statement}
 use Rattle.machine.proofs.put_back.Tie as tie
 use Rattle.machine.proofs.put_back.Reads as reads
 use Rattle.machine.proofs.put_back.Lts as lts
-use Rattle.callstack.proofs.store_head.Reads as store-head-reads
+use Rattle.heads.proofs.store_head.Reads as store-head-reads
 use Rattle.store.proofs.bit_of.Reads as bit-of-reads
 use Rattle.store.proofs.ref_word.Reads as ref-word-reads
 

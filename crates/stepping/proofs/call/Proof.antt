@@ -12,11 +12,11 @@ use Rattle.stepping.proofs.call.Statement.{statement}
 use Rattle.stepping.proofs.call.Tie as tie
 use Rattle.stepping.proofs.call.Reads as reads
 use Rattle.stepping.proofs.call.Lts as lts
-use Rattle.records.proofs.a_at.Reads as a-at-reads
-use Rattle.records.proofs.b_at.Reads as b-at-reads
+use Rattle.node_records.proofs.a_at.Reads as a-at-reads
+use Rattle.node_records.proofs.b_at.Reads as b-at-reads
 use Rattle.records.proofs.wide.Reads as wide-reads
-use Rattle.transitions.proofs.enter_none.Reads as enter-none-reads
-use Rattle.transitions.proofs.gather.Reads as gather-reads
+use Rattle.calling.proofs.enter_none.Reads as enter-none-reads
+use Rattle.gathering.proofs.gather.Reads as gather-reads
 
 -- src/lib.rt:157:9
 b-at-requires : tie.Need-b-at-requires

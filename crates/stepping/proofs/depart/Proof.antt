@@ -10,8 +10,8 @@ use Rattle.stepping.proofs.depart.Tie as tie
 use Rattle.stepping.proofs.depart.Reads as reads
 use Rattle.stepping.proofs.depart.Lts as lts
 use Rattle.stepping.proofs.unreachable.Reads as unreachable-reads
-use Rattle.transitions.proofs.leave.Reads as leave-reads
-use Rattle.transitions.proofs.leave_main.Reads as leave-main-reads
+use Rattle.calling.proofs.leave.Reads as leave-reads
+use Rattle.calling.proofs.leave_main.Reads as leave-main-reads
 
 -- src/lib.rt:118:24
 enum-known-v : tie.Need-enum-known-v

@@ -10,10 +10,10 @@ use Rattle.stepping.proofs.execute_loop.Statement.{statement}
 use Rattle.stepping.proofs.execute_loop.Tie as tie
 use Rattle.stepping.proofs.execute_loop.Reads as reads
 use Rattle.stepping.proofs.execute_loop.Lts as lts
-use Rattle.records.proofs.prior.Reads as prior-reads
+use Rattle.node_records.proofs.prior.Reads as prior-reads
 use Rattle.stepping.proofs.ref_at.Reads as ref-at-reads
 use Rattle.transitions.proofs.lay.Reads as lay-reads
-use Rattle.transitions.proofs.reach.Reads as reach-reads
+use Rattle.gathering.proofs.reach.Reads as reach-reads
 
 -- src/lib.rt:246:16
 sub-last : tie.Need-sub-last

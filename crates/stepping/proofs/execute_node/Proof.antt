@@ -18,16 +18,16 @@ use Rattle.stepping.proofs.execute_node.Statement.{statement}
 use Rattle.stepping.proofs.execute_node.Tie as tie
 use Rattle.stepping.proofs.execute_node.Reads as reads
 use Rattle.stepping.proofs.execute_node.Lts as lts
-use Rattle.records.proofs.b_at.Reads as b-at-reads
-use Rattle.records.proofs.kind_at.Reads as kind-at-reads
-use Rattle.records.proofs.prior.Reads as prior-reads
+use Rattle.node_records.proofs.b_at.Reads as b-at-reads
+use Rattle.node_records.proofs.kind_at.Reads as kind-at-reads
+use Rattle.node_records.proofs.prior.Reads as prior-reads
 use Rattle.records.proofs.wide.Reads as wide-reads
 use Rattle.stepping.proofs.ref_at.Reads as ref-at-reads
 use Rattle.stepping.proofs.ref_word_at.Reads as ref-word-at-reads
 use Rattle.stepping.proofs.unreachable.Reads as unreachable-reads
 use Rattle.transitions.proofs.lay.Reads as lay-reads
 use Rattle.transitions.proofs.put.Reads as put-reads
-use Rattle.transitions.proofs.reach.Reads as reach-reads
+use Rattle.gathering.proofs.reach.Reads as reach-reads
 
 -- src/lib.rt:218:16
 sub-last : tie.Need-sub-last

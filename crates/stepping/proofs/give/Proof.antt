@@ -22,8 +22,8 @@ use Rattle.stepping.proofs.next_operand.Reads as next-operand-reads
 use Rattle.stepping.proofs.operate.Reads as operate-reads
 use Rattle.topframe.proofs.top_frame.Reads as top-frame-reads
 use Rattle.transitions.proofs.assign.Reads as assign-reads
-use Rattle.transitions.proofs.enter.Reads as enter-reads
-use Rattle.transitions.proofs.reach.Reads as reach-reads
+use Rattle.calling.proofs.enter.Reads as enter-reads
+use Rattle.gathering.proofs.reach.Reads as reach-reads
 use Rattle.transitions.proofs.take_off.Reads as take-off-reads
 
 -- src/lib.rt:273:18

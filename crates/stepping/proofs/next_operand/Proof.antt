@@ -12,8 +12,8 @@ use Rattle.stepping.proofs.next_operand.Statement.{statement}
 use Rattle.stepping.proofs.next_operand.Tie as tie
 use Rattle.stepping.proofs.next_operand.Reads as reads
 use Rattle.stepping.proofs.next_operand.Lts as lts
-use Rattle.store.proofs.frame_word.Reads as frame-word-reads
-use Rattle.transitions.proofs.reach.Reads as reach-reads
+use Rattle.frame_words.proofs.frame_word.Reads as frame-word-reads
+use Rattle.gathering.proofs.reach.Reads as reach-reads
 use Rattle.transitions.proofs.supply.Reads as supply-reads
 
 -- src/lib.rt:46:18

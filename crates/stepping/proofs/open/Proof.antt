@@ -19,16 +19,16 @@ use Rattle.stepping.proofs.open.Tie as tie
 use Rattle.stepping.proofs.open.Reads as reads
 use Rattle.stepping.proofs.open.Lts as lts
 use Rattle.callstack.proofs.variable.Reads as variable-reads
-use Rattle.records.proofs.a_at.Reads as a-at-reads
-use Rattle.records.proofs.b_at.Reads as b-at-reads
-use Rattle.records.proofs.kind_at.Reads as kind-at-reads
-use Rattle.records.proofs.prior.Reads as prior-reads
+use Rattle.node_records.proofs.a_at.Reads as a-at-reads
+use Rattle.node_records.proofs.b_at.Reads as b-at-reads
+use Rattle.node_records.proofs.kind_at.Reads as kind-at-reads
+use Rattle.node_records.proofs.prior.Reads as prior-reads
 use Rattle.records.proofs.wide.Reads as wide-reads
 use Rattle.stepping.proofs.call.Reads as call-reads
 use Rattle.stepping.proofs.unreachable.Reads as unreachable-reads
-use Rattle.transitions.proofs.gather.Reads as gather-reads
+use Rattle.gathering.proofs.gather.Reads as gather-reads
 use Rattle.transitions.proofs.lay.Reads as lay-reads
-use Rattle.transitions.proofs.reach.Reads as reach-reads
+use Rattle.gathering.proofs.reach.Reads as reach-reads
 
 -- src/lib.rt:172:9
 kind-at-requires : tie.Need-kind-at-requires

@@ -20,7 +20,7 @@ use Rattle.stepping.proofs.operate.Lts as lts
 use Rattle.arith.proofs.apply.Reads as apply-reads
 use Rattle.stepping.proofs.raise.Reads as raise-reads
 use Rattle.stepping.proofs.unreachable.Reads as unreachable-reads
-use Rattle.store.proofs.slot_value.Reads as slot-value-reads
+use Rattle.frame_words.proofs.slot_value.Reads as slot-value-reads
 use Rattle.transitions.proofs.take_off.Reads as take-off-reads
 
 -- src/lib.rt:66:20

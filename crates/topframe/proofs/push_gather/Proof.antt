@@ -18,8 +18,8 @@ use Rattle.topframe.proofs.push_gather.Statement.{statement}
 use Rattle.topframe.proofs.push_gather.Tie as tie
 use Rattle.topframe.proofs.push_gather.Reads as reads
 use Rattle.topframe.proofs.push_gather.Lts as lts
-use Rattle.records.proofs.prior.Reads as prior-reads
-use Rattle.store.proofs.put_frame.Reads as put-frame-reads
+use Rattle.node_records.proofs.prior.Reads as prior-reads
+use Rattle.frame_words.proofs.put_frame.Reads as put-frame-reads
 
 abbrev Inv-loop : tie.InvT-loop
 Inv-loop m₀ part n kind x k last j₀ c₀ m j c =

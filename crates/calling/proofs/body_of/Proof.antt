@@ -1,0 +1,58 @@
+use mathlib.Core.Path.{sym, ap, _∙_}
+use borrow.Author.Tests.{ne-eqb}
+use native.Mathlib.Omega.{arith}
+use Rattle.semantics.specs.File.{refAt, funOf}
+use Rattle.store.specs.Meaning.{refIs}
+use Rattle.transitions.proofs.Looks.{body-kind}
+use borrow.Author.Needs.{needs}
+use Rattle.calling.proofs.body_of.Statement.{statement}
+use Rattle.calling.proofs.body_of.Tie as tie
+use Rattle.calling.proofs.body_of.Reads as reads
+use Rattle.calling.proofs.body_of.Lts as lts
+
+-- src/lib.rt:161:16
+sub-root : tie.Need-sub-root
+sub-root c = search needs
+
+-- src/lib.rt:162:30
+mul-kind : tie.Need-mul-kind
+mul-kind c = search needs
+
+-- src/lib.rt:162:30
+add-kind : tie.Need-add-kind
+add-kind c = search needs
+
+-- src/lib.rt:162:21
+add-kind-2 : tie.Need-add-kind-2
+add-kind-2 c = search needs
+
+-- src/lib.rt:162:16
+shared-slice-read-kind : tie.Need-shared-slice-read-kind
+shared-slice-read-kind c = search needs
+
+-- src/lib.rt:166:19
+cast-t13 : tie.Need-cast-t13
+cast-t13 c = search needs
+
+-- src/lib.rt:157:1
+returns : tie.Need-returns
+unfolding refIs refAt funOf
+returns c g a b = rw (body-kind _ g _ _ a b (search needs), c .if1 .taken)
+
+-- src/lib.rt:157:1
+returns-2 : tie.Need-returns-2
+unfolding refIs refAt funOf
+returns-2 c g a b = rw (body-kind _ g _ _ a b (search needs), ne-eqb _ 6 (c .if1 .left), b)
+
+pub body-of-spec : {M : Type 1} → statement M
+body-of-spec =
+    tie.close
+    (tie.spec
+    sub-root
+    mul-kind
+    add-kind
+    add-kind-2
+    shared-slice-read-kind
+    cast-t13
+    returns
+    returns-2)

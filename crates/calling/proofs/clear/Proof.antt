@@ -1,0 +1,23 @@
+use mathlib.Core.Path.{sym, ap, _∙_}
+use Rattle.image.proofs.Heads.{clear-core}
+use borrow.Author.Needs.{needs}
+use Rattle.calling.proofs.clear.Statement.{statement}
+use Rattle.calling.proofs.clear.Tie as tie
+use Rattle.calling.proofs.clear.Reads as reads
+use Rattle.calling.proofs.clear.Lts as lts
+use Rattle.words.proofs.zero_at.Reads as zero-at-reads
+
+-- src/lib.rt:258:5
+zero-at-requires : tie.Need-zero-at-requires
+zero-at-requires c κs = search needs
+
+-- src/lib.rt:254:1
+same-length : tie.Need-same-length
+same-length c = search needs
+
+-- src/lib.rt:254:1
+returns : tie.Need-returns
+returns c f η K A R e few fewer z w = c .before .before .zero-at .ensures ∙ rw (e, c .before .before .before .before .before .pre .0 ∙ sym w) (clear-core f η K A few fewer R z w)
+
+pub clear-spec : {M : Type 1} → statement M
+clear-spec = tie.close (tie.spec zero-at-requires same-length returns)
