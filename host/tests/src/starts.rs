@@ -29,7 +29,9 @@ fn is_left(answer: Answer, before: &[u32], after: &[u32]) -> bool {
     if answer.is_some() {
         return before == after;
     }
-    after[0] == 1 && after[1..IMAGE].iter().all(|&word| word == 0) && after[IMAGE..] == before[IMAGE..]
+    after[0] == 1
+        && after[1..IMAGE].iter().all(|&word| word == 0)
+        && after[IMAGE..] == before[IMAGE..]
 }
 
 /// Every worked file with every length of memory.

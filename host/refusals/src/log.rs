@@ -1,0 +1,55 @@
+//! What the prover said of an edited crate.
+
+/// Words of an error that says that the proof no longer has the form that the code asks for, not that a fact fails.
+const MISFIT: [&str; 2] = ["has no `", "is not in scope"];
+
+/// Words of an error that only follows from another.
+const FOLLOWS: &str = "was not admitted";
+
+/// Why a wrong program does not count as refused; none where a fact of its own function fails.
+pub fn objection(log: &str, function: Option<&str>) -> Option<String> {
+    let Some(function) = function else {
+        return (!log.lines().any(is_error)).then(|| "the prover has no error".to_string());
+    };
+    match verdict(log, function) {
+        None => return Some(format!("the prover does not speak of {function}")),
+        Some(said) if said == "proved" => return Some(format!("{function} is proved")),
+        Some(said) if said.starts_with("not proved; it calls") => {
+            return Some(format!("{function} is only refused for what it calls"))
+        }
+        Some(said) if said.starts_with("no proof") => return None,
+        Some(_) => {}
+    }
+    let own: Vec<&str> =
+        log.lines().filter(|line| is_error(line) && is_of(line, function)).collect();
+    if let Some(line) = own.iter().find(|line| MISFIT.iter().any(|words| line.contains(words))) {
+        return Some(format!("a misfit: {}", short(line)));
+    }
+    let fails = own.iter().any(|line| !line.contains(FOLLOWS));
+    (!fails).then(|| format!("no fact of {function} fails"))
+}
+
+/// The prover's verdict on a function.
+fn verdict<'a>(log: &'a str, function: &str) -> Option<&'a str> {
+    log.lines().find_map(|line| {
+        let (path, said) = line.strip_prefix("fn ")?.split_once(": ")?;
+        (path.rsplit("::").next() == Some(function)).then_some(said)
+    })
+}
+
+/// Whether a line begins an error.
+fn is_error(line: &str) -> bool {
+    line.contains(": error: ")
+}
+
+/// Whether an error stands in a function's proof, alone or in a cycle of calls.
+fn is_of(line: &str, function: &str) -> bool {
+    let path = line.split(": error: ").next().unwrap_or("");
+    path.split('/').any(|part| part.split('+').any(|name| name == function))
+}
+
+/// The first words of a line.
+fn short(line: &str) -> String {
+    let text = line.split(": error: ").nth(1).unwrap_or(line);
+    text.chars().take(120).collect()
+}
