@@ -20,6 +20,12 @@ pub struct Side {
     pub check: fn(&[u8]) -> Answer,
 }
 
+/// How many times as many random cases are drawn as in the gate: the whole number that PANELRUE_SCALE says, else 1.
+pub fn scale() -> u64 {
+    let asked = std::env::var("PANELRUE_SCALE").ok().and_then(|n| n.parse().ok());
+    asked.unwrap_or(1).max(1)
+}
+
 /// The checks under test: the reference, the fast one, and the proved one where it is linked.
 pub fn sides() -> Vec<Side> {
     vec![

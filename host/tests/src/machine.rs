@@ -9,6 +9,7 @@ mod looks;
 mod memories;
 mod random;
 mod safety;
+mod scatter;
 mod small;
 mod states;
 mod table;
@@ -80,7 +81,7 @@ fn on_side(side: &Entries, scale: impl Fn(u64) -> u64, report: &mut Report) {
         ("deep trees, small stack", &|| deep::outcome(side)),
         ("runs cut into pieces", &|| cut::outcome(side, scale(40))),
         ("look-ups after every step", &|| looks::outcome(side, scale(12))),
-        ("random lists of calls", &|| lists::outcome(side, scale(300))),
+        ("random lists of calls", &|| lists::outcome(side, scale(1_000))),
         ("random runs", &|| random::outcome(side, scale(20_000))),
         ("each word changed", &|| memories::each_word(side)),
         ("changed memories", &|| memories::outcome(side, scale(100_000))),
@@ -95,7 +96,7 @@ type Report<'a> = dyn FnMut(&str, &str, &Outcome) + 'a;
 
 /// Runs every scenario on every side and hands each group's outcome on.
 pub fn run(report: &mut Report) {
-    let scale = std::env::var("PANELRUE_SCALE").ok().and_then(|n| n.parse().ok()).unwrap_or(1);
+    let scale = crate::scale();
     let sides = entries();
     if sides.len() < 3 {
         println!("the proved machine is not linked (feature `machine`)");

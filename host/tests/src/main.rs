@@ -3,10 +3,10 @@
 use tests::case::Group;
 use tests::random::{self, Tally, KINDS};
 use tests::report::Outcome;
-use tests::{machine, sides, worked, Side};
+use tests::{machine, scale, sides, worked, Side};
 
-/// The random files of a run where PANELRUE_FILES says nothing.
-const FILES: usize = 240_000;
+/// The random files of a run of scale 1.
+const FILES: u64 = 240_000;
 
 /// The sum of all comparisons.
 #[derive(Default)]
@@ -57,8 +57,7 @@ fn run_table(sides: &[Side], total: &mut Total) {
 
 /// The random files on every side but the reference, which gives the answers.
 fn run_random(sides: &[Side], total: &mut Total) {
-    let asked = std::env::var("PANELRUE_FILES").ok().and_then(|n| n.parse().ok());
-    let tally = random::run(asked.unwrap_or(FILES), sides);
+    let tally = random::run(FILES * scale(), sides);
     for (kind, outcomes) in KINDS.iter().zip(&tally.outcomes) {
         for (side, outcome) in sides.iter().zip(outcomes) {
             total.add(kind, side.name, outcome);

@@ -101,8 +101,8 @@ fn judge_seeds(seeds: std::ops::Range<u64>, sides: &[Side]) -> Tally {
 }
 
 /// Judges at least so many files on two threads with stacks for deep trees.
-pub fn run(files: usize, sides: &[Side]) -> Tally {
-    let seeds = files.div_ceil(KINDS.len()) as u64;
+pub fn run(files: u64, sides: &[Side]) -> Tally {
+    let seeds = files.div_ceil(KINDS.len() as u64);
     let mut tally = Tally::new(sides.len());
     std::thread::scope(|scope| {
         let halves = [0..seeds / 2, seeds / 2..seeds];

@@ -1,7 +1,7 @@
-//! Changes of single words of an image.
+//! Changes of one and of two words of an image.
 
 use files::rng::Rng;
-use reference::image::{ACTIVATION, ACTIVATIONS, FRAME, FRAMES, WORDS};
+use reference::image::{ACTIVATION, ACTIVATIONS, ACTIVATION_HEAD, FRAME, FRAMES, WORDS};
 
 /// A word that is likely to matter in an image.
 fn place(rng: &mut Rng, words: &[u32]) -> usize {
@@ -26,6 +26,16 @@ fn place(rng: &mut Rng, words: &[u32]) -> usize {
 
 /// Another word in the place of an old one.
 fn word(rng: &mut Rng, words: &[u32], old: u32) -> u32 {
+    loop {
+        let new = any_word(rng, words, old);
+        if new != old {
+            return new;
+        }
+    }
+}
+
+/// A word that may stand in the place of an old one, or the old one again.
+fn any_word(rng: &mut Rng, words: &[u32], old: u32) -> u32 {
     match rng.below(10) {
         0 => 0,
         1 => old.wrapping_add(1),
@@ -40,14 +50,24 @@ fn word(rng: &mut Rng, words: &[u32], old: u32) -> u32 {
     }
 }
 
+/// A word with the word that stood there.
+type Old = (usize, u32);
+
+/// Puts another word at a place.
+fn put(rng: &mut Rng, words: &mut [u32], at: usize) -> Old {
+    let old = (at, words[at]);
+    words[at] = word(rng, words, words[at]);
+    old
+}
+
 /// Gives a variable, or a frame's first slot, any value of any type.
-fn revalue(rng: &mut Rng, words: &mut [u32]) -> Vec<(usize, u32)> {
+fn revalue(rng: &mut Rng, words: &mut [u32]) -> Vec<Old> {
     let activation = ACTIVATIONS + ACTIVATION * rng.below((words[2] as usize).clamp(1, 32));
     let vars = (words[activation + 2] as usize).min(64);
     let at = if rng.one_in(4) {
         FRAMES + FRAME * rng.below((words[activation + 1] as usize).clamp(1, 512)) + 4
     } else {
-        activation + 8 + 2 * rng.below(vars)
+        activation + ACTIVATION_HEAD + 2 * rng.below(vars)
     };
     let old = vec![(at, words[at]), (at + 1, words[at + 1])];
     let kept = !rng.one_in(4) && words[at] != 0;
@@ -57,24 +77,39 @@ fn revalue(rng: &mut Rng, words: &mut [u32]) -> Vec<(usize, u32)> {
     old
 }
 
-/// Changes one or two words and gives their places with the old words, the last change first.
-pub fn change(rng: &mut Rng, words: &mut [u32]) -> Vec<(usize, u32)> {
-    if words[0] == 2 && rng.one_in(5) {
-        return revalue(rng, words);
+/// The word of a value that is held, if the one that was tried is.
+fn held(rng: &mut Rng, words: &[u32]) -> Option<usize> {
+    let activation = ACTIVATIONS + ACTIVATION * rng.below((words[2] as usize).clamp(1, 32));
+    let vars = (words[activation + 2] as usize).min(64);
+    let ty = activation + ACTIVATION_HEAD + 2 * rng.below(vars);
+    (words[0] == 2 && words[ty] != 0).then_some(ty + 1)
+}
+
+/// Changes one word and gives its place with the old word.
+pub fn single(rng: &mut Rng, words: &mut [u32]) -> Vec<Old> {
+    let value = if rng.one_in(4) { held(rng, words) } else { None };
+    let at = value.unwrap_or_else(|| place(rng, words));
+    vec![put(rng, words, at)]
+}
+
+/// Changes two words, or a value of two words, and gives their places with the old words.
+pub fn double(rng: &mut Rng, words: &mut [u32]) -> Vec<Old> {
+    if words[0] == 2 && rng.one_in(3) {
+        loop {
+            let old = revalue(rng, words);
+            if old.iter().any(|&(at, word)| words[at] != word) {
+                return old;
+            }
+        }
     }
-    let mut old = Vec::new();
-    let first = place(rng, words);
-    let mut places = vec![first];
-    match rng.below(4) {
-        0 => places.push(place(rng, words)),
-        1 => places.push((first + 1).min(WORDS - 1)),
-        _ => {}
-    }
-    for at in places {
-        old.insert(0, (at, words[at]));
-        words[at] = word(rng, words, words[at]);
-    }
-    old
+    let first = place(rng, words).min(WORDS - 2);
+    let other = loop {
+        let at = if rng.one_in(2) { place(rng, words) } else { first + 1 };
+        if at != first {
+            break at;
+        }
+    };
+    vec![put(rng, words, first), put(rng, words, other)]
 }
 
 /// Takes changes back.

@@ -55,7 +55,9 @@ pub fn outcome(side: &Entries) -> Outcome {
         if case.fit {
             let mut trial = Trial::new(side, &model, case.name.to_string(), case.state);
             trial.memory_check();
-            (0..3).for_each(|x| trial.look_up(x));
+            for x in 0..3 {
+                trial.look_up(x);
+            }
             for _ in 0..40 {
                 trial.run(1);
             }

@@ -64,6 +64,8 @@ fn looks(side: &Entries, model: &Model, label: String) -> Outcome {
             break;
         }
     }
-    asked(model, &trial.state).into_iter().for_each(|x| trial.look_up(x));
+    for variable in asked(model, &trial.state) {
+        trial.look_up(variable);
+    }
     trial.outcome
 }

@@ -1,6 +1,7 @@
-//! Images of reached states and of random states, with words changed.
+//! Images of reached states and of random states, images with one or two words changed, and random words.
 
-use super::change::{change, undo};
+use super::change::{double, single, undo};
+use super::scatter::scatter;
 use super::states::States;
 use super::trial::{Model, Trial};
 use super::Entries;
@@ -11,8 +12,31 @@ use reference::calls::held;
 use reference::image::{encode_into, WORDS};
 use reference::machine::State;
 
-/// The changed memories for each state.
-const CHANGES: usize = 19;
+/// The states of a program, of which every fourth is one that a run reaches.
+const STATES: usize = 8;
+
+/// The memories with one word changed, and with two, for each state.
+const CHANGES: usize = 4;
+
+/// The memories of random words for each state.
+const SCATTERED: usize = 2;
+
+/// The kinds of memory, each with the least number in a thousand that must be accepted.
+const KINDS: [(&str, usize); 5] = [
+    ("random states", 400),
+    ("reached states", 1_000),
+    ("one word changed", 50),
+    ("two words changed", 50),
+    ("random words", 50),
+];
+const RANDOM: usize = 0;
+const REACHED: usize = 1;
+const SINGLE: usize = 2;
+const DOUBLE: usize = 3;
+const WORDS_ALONE: usize = 4;
+
+/// Changes a memory and gives what stood there.
+type Change = fn(&mut Rng, &mut [u32]) -> Vec<(usize, u32)>;
 
 /// How many memories of a kind were judged, and how many were fit.
 #[derive(Default)]
@@ -25,10 +49,10 @@ struct Count {
 struct Memories<'a> {
     side: &'a Entries,
     outcome: Outcome,
-    counts: [Count; 3],
+    counts: [Count; KINDS.len()],
 }
 
-/// Judges so many memories.
+/// Judges at least so many memories.
 pub fn outcome(side: &Entries, memories: u64) -> Outcome {
     let mut all = Memories { side, outcome: Outcome::default(), counts: Default::default() };
     let mut seed = 3_000_000;
@@ -36,18 +60,14 @@ pub fn outcome(side: &Entries, memories: u64) -> Outcome {
         all.program(seed);
         seed += 1;
     }
-    let told: Vec<String> = all.counts.iter().map(|c| format!("{} of {}", c.fit, c.all)).collect();
-    println!(
-        "  fit: {} unchanged random, {} unchanged reached, {} changed",
-        told[0], told[1], told[2]
-    );
     // The judgement is empty where hardly any memory of a kind is accepted or, of changed ones, refused.
-    for count in &all.counts {
-        let enough = count.fit * 8 > count.all;
-        all.outcome.same(|| "enough fit memories".to_string(), &[], true, enough);
+    for ((name, least), count) in KINDS.iter().zip(&all.counts) {
+        println!("  {name}: {} of {} fit", count.fit, count.all);
+        let enough = count.fit * 1_000 >= count.all * least;
+        all.outcome.same(|| format!("enough fit memories, {name}"), &[], true, enough);
+        let refused = *least == 1_000 || (count.all - count.fit) * 4 > count.all;
+        all.outcome.same(|| format!("enough unfit memories, {name}"), &[], true, refused);
     }
-    let refused = (all.counts[2].all - all.counts[2].fit) * 4 > all.counts[2].all;
-    all.outcome.same(|| "enough unfit memories".to_string(), &[], true, refused);
     all.outcome
 }
 
@@ -63,14 +83,14 @@ pub fn each_word(side: &Entries) -> Outcome {
     for at in 0..WORDS {
         let old = memory[at];
         memory[at] ^= 1 << rng.below(32);
-        all.memory(&model, &mut rng, &mut memory, 2, at as u64);
+        all.memory(&model, &mut rng, &mut memory, SINGLE, at as u64);
         memory[at] = old;
     }
     all.outcome
 }
 
 impl Memories<'_> {
-    /// Eight states of one program, each with its changes.
+    /// The states of one program, each with its changes, and random words.
     fn program(&mut self, seed: u64) {
         let mut rng = Rng::new(seed);
         let file = match rng.below(6) {
@@ -84,17 +104,16 @@ impl Memories<'_> {
         let model = Model::new(&file);
         let (_, _, length) = model.after(2_000);
         let states = States::new(&model.judge.program);
-        for i in 0..8 {
-            let reached = i % 2;
-            let state = match reached {
-                0 => states.draw(&mut rng),
-                _ => model.after(rng.below(length as usize + 1) as u64).0,
+        for i in 0..STATES {
+            let (state, kind) = match i % 4 {
+                0 => (model.after(rng.below(length as usize + 1) as u64).0, REACHED),
+                _ => (states.draw(&mut rng), RANDOM),
             };
-            self.state(&model, &mut rng, state, reached, seed);
+            self.state(&model, &mut rng, state, kind, seed);
         }
     }
 
-    /// The image of a state, as it is and changed.
+    /// The image of a state, as it is and changed, and random words.
     fn state(&mut self, model: &Model, rng: &mut Rng, state: State, kind: usize, seed: u64) {
         let mut memory = vec![seed as u32; WORDS + 2];
         encode_into(&state, &mut memory);
@@ -102,10 +121,15 @@ impl Memories<'_> {
         let fit = model.judge.is_fit(&state);
         let got = held(&model.judge, &memory) == fit.then_some(state);
         self.outcome.same(|| format!("read back, seed {seed}"), &model.file, true, got);
-        for _ in 0..CHANGES {
+        let changes: [(usize, Change); 2] = [(SINGLE, single), (DOUBLE, double)];
+        for (kind, change) in changes.repeat(CHANGES) {
             let old = change(rng, &mut memory);
-            self.memory(model, rng, &mut memory, 2, seed);
+            self.memory(model, rng, &mut memory, kind, seed);
             undo(&mut memory, &old);
+        }
+        for _ in 0..SCATTERED {
+            scatter(rng, &model.judge.program, &mut memory);
+            self.memory(model, rng, &mut memory, WORDS_ALONE, seed);
         }
     }
 
@@ -119,7 +143,7 @@ impl Memories<'_> {
         let name = || format!("seed {seed}, head {:?}", &memory[..5]);
         self.outcome.compare(name, &model.file, expected, got);
         match state {
-            Some(state) if rng.one_in(2) => {
+            Some(state) => {
                 let label = format!("from a memory, seed {seed}");
                 let mut trial = Trial::new(self.side, model, label, state);
                 trial.run(rng.below(4) as u64);

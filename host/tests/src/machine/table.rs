@@ -39,7 +39,9 @@ fn refused(side: &Entries) -> Outcome {
         let got = (side.memory_check)(&file, &trial.memory);
         trial.outcome.compare(|| "a refused row".to_string(), &file, Some(refusal), got);
         for words in [0, WORDS - 1, WORDS, WORDS + 100] {
-            (0..4).for_each(|call| trial.refused(&file, words, call));
+            for call in 0..4 {
+                trial.refused(&file, words, call);
+            }
         }
     }
     trial.outcome
@@ -53,7 +55,9 @@ pub fn short(side: &Entries) -> Outcome {
         let (state, _, _) = model.after(steps);
         let mut trial = Trial::new(side, &model, format!("after {steps} steps"), state);
         for words in [0, 1, 4_480, WORDS - 1] {
-            (0..4).for_each(|call| trial.refused(&model.file, words, call));
+            for call in 0..4 {
+                trial.refused(&model.file, words, call);
+            }
         }
         trial.memory_check();
         outcome.add(trial.outcome);

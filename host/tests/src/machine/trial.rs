@@ -2,6 +2,7 @@
 
 use super::Entries;
 use crate::report::{shown, Outcome};
+use crate::Answer;
 use files::File;
 use reference::fit::Judge;
 use reference::image::{encode_into, WORDS};
@@ -101,18 +102,36 @@ impl<'a> Trial<'a> {
         self.outcome.compare(name, &self.model.file, None, got);
     }
 
-    /// A look-up, refused 17 where the variable does not exist.
-    pub fn look_up(&mut self, variable: u32) {
+    /// A look-up, refused 17 where the variable does not exist; gives what it must be refused with.
+    pub fn look_up(&mut self, variable: u32) -> Answer {
         let expected = look_up(&self.state, variable).ok_or((17, 0, 0));
         let got = (self.side.look_up)(&self.model.file, &self.memory, variable);
         let name = || format!("{}, look-up of {variable}", self.label);
         self.outcome.same(name, &self.model.file, expected, got);
+        expected.err()
     }
 
     /// One of the four calls with a file that is refused or with the memory cut short; nothing may change.
-    pub fn refused(&mut self, file: &[u8], words: usize, call: usize) {
+    pub fn refused(&mut self, file: &[u8], words: usize, call: usize) -> Answer {
         let checked = reference::check(file);
         let expected = checked.or((words < WORDS).then_some((15, 0, 0)));
+        self.refusal(file, words, call, expected);
+        expected
+    }
+
+    /// Run, memory check or look-up with another accepted file, if the memory is unfit for it, else a memory check.
+    pub fn elsewhere(&mut self, file: &[u8], call: usize) -> Answer {
+        let expected = reference::calls::memory_check(file, &self.memory);
+        if expected.is_some() {
+            self.refusal(file, self.memory.len(), call, expected);
+        } else {
+            self.memory_check();
+        }
+        expected
+    }
+
+    /// One of the four calls that must be refused so; nothing may change.
+    fn refusal(&mut self, file: &[u8], words: usize, call: usize, expected: Answer) {
         let memory = &mut self.memory[..words];
         let got = match call {
             0 => (self.side.start)(file, memory),
