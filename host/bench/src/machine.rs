@@ -1,88 +1,112 @@
-//! Times steps and resumes of the machine and prints Markdown tables.
+//! Times the machine's entry points and prints Markdown tables.
 //!
 //! Without the feature `machine` the reference stands where the proved machine would.
 
+mod depth;
+mod memory;
+mod resume;
+mod steps;
+
 use crate::timing::medians_of;
-use files::{endless, shapes, File};
-use reference::machine::Outcome;
+use files::File;
+use reference::image::{ACTIVATION, ACTIVATIONS, FRAMES, WORDS};
 use std::hint::black_box;
 use tests::machine::{entries, Entries};
 
-/// The words of an image.
-const WORDS: usize = 16_384;
+/// The two sides: the proved entry points where they are linked, and the fast ones.
+struct Sides {
+    judged: Entries,
+    plain: Entries,
+}
 
-/// The steps of a timed run.
-const STEPS: u64 = 20_000;
+impl Sides {
+    /// The sides that are linked.
+    fn new() -> Sides {
+        let all = entries();
+        Sides { judged: *all.get(2).unwrap_or(&all[0]), plain: all[1] }
+    }
 
-/// The side to judge, which is the proved one where it is linked, and the fast one.
-fn judged() -> [Entries; 2] {
-    let all = entries();
-    let fast = all[1];
-    match all.get(2) {
-        Some(proved) => [*proved, fast],
-        None => [all[0], fast],
+    /// The memory after so many steps of a program, which is the same on both sides.
+    fn after(&self, file: &[u8], steps: u64) -> Vec<u32> {
+        let [first, second] = [self.judged, self.plain].map(|side| {
+            let mut memory = vec![0; WORDS];
+            assert_eq!((side.start)(file, &mut memory), None);
+            assert!((side.run)(file, &mut memory, steps).is_ok());
+            memory
+        });
+        assert_eq!(first, second);
+        first
+    }
+
+    /// The memory of the first state of a program with so many frames.
+    fn at_frames(&self, file: &[u8], frames: usize) -> Vec<u32> {
+        let mut memory = self.after(file, 0);
+        for _ in 0..20_000 {
+            if held(&memory).0 == frames {
+                return memory;
+            }
+            assert!((self.plain.run)(file, &mut memory, 1).is_ok());
+        }
+        panic!("no state has {frames} frames");
+    }
+
+    /// The nanoseconds of a run from a memory on both sides, each going on in its own copy.
+    fn run(&self, file: &[u8], memory: &[u32], allowance: u64) -> [f64; 2] {
+        let (mut first, mut second) = (memory.to_vec(), memory.to_vec());
+        let mut judged = || go_on(&self.judged, file, &mut first, allowance);
+        let mut plain = || go_on(&self.plain, file, &mut second, allowance);
+        medians_of([&mut judged, &mut plain])
+    }
+
+    /// The nanoseconds of a step from a memory on both sides: a run of so many less a run of none.
+    fn step(&self, file: &[u8], memory: &[u32], steps: u64) -> [f64; 2] {
+        let mut copies = [0; 4].map(|_| memory.to_vec());
+        let [a, b, c, d] = &mut copies;
+        let [idle, plain_idle, busy, plain_busy] = medians_of([
+            &mut || go_on(&self.judged, file, a, 0),
+            &mut || go_on(&self.plain, file, b, 0),
+            &mut || go_on(&self.judged, file, c, steps),
+            &mut || go_on(&self.plain, file, d, steps),
+        ]);
+        [busy - idle, plain_busy - plain_idle].map(|time| time.max(0.0) / steps as f64)
+    }
+
+    /// The nanoseconds of a memory check on both sides.
+    fn memory_check(&self, file: &[u8], memory: &[u32]) -> [f64; 2] {
+        let one = |side: &Entries| {
+            assert_eq!(black_box((side.memory_check)(black_box(file), black_box(memory))), None);
+        };
+        medians_of([&mut || one(&self.judged), &mut || one(&self.plain)])
     }
 }
 
-/// A memory after so many steps of a program.
-fn after(side: &Entries, file: &[u8], steps: u64) -> Vec<u32> {
-    let mut memory = vec![0; WORDS];
-    assert_eq!((side.start)(file, &mut memory), None);
-    assert!((side.run)(file, &mut memory, steps).is_ok());
-    memory
+/// One run of one side.
+fn go_on(side: &Entries, file: &[u8], memory: &mut [u32], allowance: u64) {
+    assert!(black_box((side.run)(black_box(file), memory, allowance)).is_ok());
 }
 
-/// The nanoseconds of a call on both sides, each with its own memory.
-fn both(sides: &[Entries; 2], file: &[u8], steps: u64, allowance: u64) -> [f64; 2] {
-    let mut memories = sides.map(|side| after(&side, file, steps));
-    assert_eq!(memories[0], memories[1]);
-    let [first, second] = &mut memories;
-    let run = |side: usize, memory: &mut [u32]| {
-        black_box((sides[side].run)(black_box(file), memory, allowance)).is_ok()
-    };
-    let mut slow = || assert!(run(0, first));
-    let mut plain = || assert!(run(1, second));
-    medians_of([&mut slow, &mut plain])
+/// The waiting frames and the saved callers of a running state's image, main's empty caller included.
+fn held(memory: &[u32]) -> (usize, usize) {
+    let callers = memory[2] as usize;
+    let counts = memory[ACTIVATIONS..FRAMES].chunks_exact(ACTIVATION).map(|a| a[1] as usize);
+    (counts.take(callers).sum(), callers)
 }
 
-/// Prints the time of a step in each program that runs without end.
-fn print_steps(sides: &[Entries; 2]) {
-    let name = sides[0].name;
-    println!("\n| program | {name} ns/step | plain ns/step | ratio | {name} steps/s |");
-    println!("|---|---:|---:|---:|---:|");
-    for (program, make) in endless::ALL {
-        let file = make().bytes();
-        let mut memory = after(&sides[1], &file, 1_000);
-        let answer = (sides[1].run)(&file, &mut memory, STEPS);
-        assert_eq!(answer, Ok((Outcome::Spent, STEPS)), "{program}");
-        let idle = both(sides, &file, 1_000, 0);
-        let busy = both(sides, &file, 1_000, STEPS);
-        let [slow, plain] = [0, 1].map(|i| (busy[i] - idle[i]).max(0.0) / STEPS as f64);
-        let rate = 1e9 / slow.max(0.01);
-        println!("| {program} | {slow:.2} | {plain:.2} | {:.2} | {rate:.0} |", slow / plain);
-    }
+/// Two times with their ratio, as the last cells of a row.
+fn cells([judged, plain]: [f64; 2], digits: usize) -> String {
+    format!("{judged:.digits$} | {plain:.digits$} | {:.2} |", judged / plain)
 }
 
-/// Prints the time of a run of no steps, by the file's size and the state's.
-fn print_resumes(sides: &[Entries; 2]) {
-    let name = sides[0].name;
-    println!("\n| resume | {name} ns | plain ns | ratio |");
-    println!("|---|---:|---:|---:|");
-    let row = |label: String, file: &File, steps: u64| {
-        let [slow, plain] = both(sides, &file.bytes(), steps, 0);
-        println!("| {label} | {slow:.0} | {plain:.0} | {:.2} |", slow / plain);
-    };
-    row("counting, few frames".to_string(), &endless::counting(), 1_000);
-    for nodes in [128, 1024, 4096] {
-        row(format!("{nodes} nodes, main()"), &shapes::calls(nodes), 0);
-        row(format!("{nodes} nodes, after 40 steps"), &shapes::calls(nodes), 40);
-    }
-    row("4,096 nodes, 512 frames".to_string(), &shapes::calls(4096), 513);
+/// The nodes of a file.
+fn nodes(file: &File) -> usize {
+    file.nodes.len()
 }
 
-/// Prints both tables.
+/// Prints all tables.
 pub fn run() {
-    let sides = judged();
-    print_steps(&sides);
-    print_resumes(&sides);
+    let sides = Sides::new();
+    steps::print(&sides);
+    depth::print(&sides);
+    resume::print(&sides);
+    memory::print(&sides);
 }

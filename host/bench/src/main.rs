@@ -2,12 +2,12 @@
 //!
 //! Without the feature `proved` the reference stands where the proved check would.
 
+mod cases;
 mod machine;
 mod timing;
 
 use files::{late, shapes};
-use tests::{sides, Side};
-use timing::medians;
+use timing::{checks, judged, medians};
 
 /// The numbers of nodes timed.
 const SIZES: [usize; 6] = [128, 256, 512, 1024, 2048, 4096];
@@ -46,15 +46,6 @@ fn entries() -> Vec<Entry> {
         }
     }
     all
-}
-
-/// The side to judge: the last one, which is the proved check where it is linked.
-fn judged(sides: &[Side]) -> Side {
-    if sides.len() > 2 {
-        sides[2]
-    } else {
-        sides[0]
-    }
 }
 
 /// Prints the table of all files.
@@ -97,20 +88,44 @@ fn print_summary(name: &str, rows: &[Row]) {
     }
 }
 
+/// Prints by how much the time of a file grows from the fewest nodes to the most, for each time the nodes do.
+fn print_growth(name: &str, rows: &[Row]) {
+    let growth = |time: fn(&Row) -> f64| {
+        let shapes = rows.chunks_exact(SIZES.len()).filter(|shape| shape[0].entry.reads_nodes);
+        let grown = shapes.map(|shape| {
+            let (first, last) = (&shape[0], &shape[SIZES.len() - 1]);
+            let nodes = last.entry.nodes as f64 / first.entry.nodes as f64;
+            time(last) / time(first) / nodes
+        });
+        let mut all: Vec<f64> = grown.collect();
+        all.sort_by(f64::total_cmp);
+        [all[0], all[all.len() / 2], all[all.len() - 1]]
+    };
+    println!("\n| growth of the time by growth of the nodes, over all shapes | least | median | greatest |");
+    println!("|---|---:|---:|---:|");
+    let sides: [(&str, fn(&Row) -> f64); 2] = [(name, |row| row.slow), ("plain", |row| row.plain)];
+    for (side, time) in sides {
+        let [least, median, greatest] = growth(time);
+        println!("| {side} | {least:.2} | {median:.2} | {greatest:.2} |");
+    }
+}
+
 /// Times every file on both sides.
 fn run() {
-    let side = judged(&sides());
+    let name = judged().name;
+    cases::print(name);
     let rows: Vec<Row> = entries()
         .into_iter()
         .map(|entry| {
-            let checks = [side.check, reference::fast::check];
+            let checks = checks();
             assert_eq!(checks[0](&entry.file), checks[1](&entry.file), "{}", entry.shape);
             let [slow, plain] = medians(&entry.file, checks);
             Row { entry, slow, plain }
         })
         .collect();
-    print_rows(side.name, &rows);
-    print_summary(side.name, &rows);
+    print_rows(name, &rows);
+    print_summary(name, &rows);
+    print_growth(name, &rows);
     machine::run();
 }
 

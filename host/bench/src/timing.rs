@@ -2,13 +2,24 @@
 
 use std::hint::black_box;
 use std::time::{Duration, Instant};
-use tests::Answer;
+use tests::{sides, Answer, Side};
 
 /// A check under time.
 type Check = fn(&[u8]) -> Answer;
 
+/// The check to judge, which is the proved one where it is linked.
+pub fn judged() -> Side {
+    let all = sides();
+    *all.get(2).unwrap_or(&all[0])
+}
+
+/// The check to judge and the fast plain one.
+pub fn checks() -> [Check; 2] {
+    [judged().check, reference::fast::check]
+}
+
 /// The samples of which the median is taken.
-const SAMPLES: usize = 15;
+const SAMPLES: usize = 25;
 
 /// The least time of a sample.
 const SAMPLE: Duration = Duration::from_micros(300);
@@ -41,17 +52,16 @@ pub fn medians(file: &[u8], checks: [Check; 2]) -> [f64; 2] {
 }
 
 /// The median nanoseconds of each call, with the samples taken in turn.
-pub fn medians_of(calls: [&mut dyn FnMut(); 2]) -> [f64; 2] {
-    let counts = [calls_for(calls[0]), calls_for(calls[1])];
-    let mut samples = [Vec::new(), Vec::new()];
+pub fn medians_of<const N: usize>(calls: [&mut dyn FnMut(); N]) -> [f64; N] {
+    let mut timed = calls.map(|call| (calls_for(call), call, Vec::new()));
     for _ in 0..SAMPLES {
-        for side in 0..2 {
-            let taken = time(calls[side], counts[side]);
-            samples[side].push(taken.as_nanos() as f64 / f64::from(counts[side]));
+        for (count, call, samples) in &mut timed {
+            let taken = time(*call, *count);
+            samples.push(taken.as_nanos() as f64 / f64::from(*count));
         }
     }
-    samples.map(|mut all| {
-        all.sort_by(f64::total_cmp);
-        all[all.len() / 2]
+    timed.map(|(_, _, mut samples)| {
+        samples.sort_by(f64::total_cmp);
+        samples[samples.len() / 2]
     })
 }

@@ -7,13 +7,15 @@ use crate::tree::*;
 pub type Program = (&'static str, fn() -> File);
 
 /// Every program by its name.
-pub const ALL: [Program; 8] = [
+pub const ALL: [Program; 10] = [
     ("counting", counting),
     ("arithmetic", arithmetic),
     ("conditions", conditions),
     ("decls in a loop", decls),
     ("calls without arguments", || calls(0)),
+    ("calls of one argument", || calls(1)),
     ("calls of two arguments", || calls(2)),
+    ("calls of four arguments", || calls(4)),
     ("calls of eight arguments", || calls(8)),
     ("recursion", recursion),
 ];

@@ -1,6 +1,7 @@
 //! Procedure files built from trees, drawn at random, and spoilt.
 
 pub mod aimed;
+pub mod depth;
 mod draw;
 mod draw_stmt;
 pub mod endless;

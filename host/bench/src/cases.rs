@@ -1,0 +1,35 @@
+//! The check on a small, a typical, the largest and the deepest files.
+
+use crate::timing::{checks, medians};
+use files::rng::Rng;
+use files::tree::{int, main, ret};
+use files::{lively, shapes, File};
+
+/// The first random program of four functions or more and close to 200 nodes.
+pub fn typical() -> File {
+    let fits = |file: &File| file.nodes.len().abs_diff(200) <= 10 && file.functions.len() >= 4;
+    let drawn = (0..10_000).map(|seed| lively::draw(&mut Rng::new(seed)));
+    drawn.into_iter().find(fits).unwrap_or_else(|| shapes::functions(200))
+}
+
+/// Prints a row for each file.
+pub fn print(name: &str) {
+    println!("| check | functions | nodes | {name} ns/file | plain ns/file | ratio |");
+    println!("|---|---:|---:|---:|---:|---:|");
+    let files = [
+        ("small: return 0", main(0, ret(int(0)))),
+        ("typical", typical()),
+        ("largest: 50,700 bytes", shapes::functions(4096)),
+        ("largest in one function", shapes::decls(4096)),
+        ("deepest statement: 2,047 seqs", shapes::seq_left(4096)),
+        ("deepest expression: 4,090 calls", shapes::calls(4096)),
+    ];
+    for (label, file) in files {
+        let bytes = file.bytes();
+        let [judged, plain] = medians(&bytes, checks());
+        let (functions, nodes) = (file.functions.len(), file.nodes.len());
+        let ratio = judged / plain;
+        println!("| {label} | {functions} | {nodes} | {judged:.0} | {plain:.0} | {ratio:.2} |");
+    }
+    println!();
+}

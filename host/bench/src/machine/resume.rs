@@ -1,0 +1,56 @@
+//! The price of a resume: a run of few steps checks the file and the memory first.
+
+use super::{cells, nodes, Sides};
+use crate::cases;
+use files::depth::long_loop;
+use files::{shapes, File};
+
+/// The allowances of a call.
+const ALLOWANCES: [u64; 5] = [0, 1, 10, 100, 1_000];
+
+/// Prints the time of a run by its allowance, and of a run of no steps by the file and the state.
+pub fn print(sides: &Sides) {
+    by_allowance(sides);
+    by_state(sides);
+}
+
+/// A medium and a large file with each allowance.
+fn by_allowance(sides: &Sides) {
+    let name = sides.judged.name;
+    println!("\n| file | allowance | {name} ns/run | plain ns/run | ratio | {name} ns/step |");
+    println!("|---|---:|---:|---:|---:|---:|");
+    for (label, file) in [("medium loop", long_loop(512)), ("large loop", long_loop(4096))] {
+        let bytes = file.bytes();
+        let memory = sides.after(&bytes, 1_000);
+        for allowance in ALLOWANCES {
+            let times = sides.run(&bytes, &memory, allowance);
+            let each = match allowance {
+                0 => "—".to_string(),
+                steps => format!("{:.0}", times[0] / steps as f64),
+            };
+            println!(
+                "| {label}, {} nodes | {allowance} | {} {each} |",
+                nodes(&file),
+                cells(times, 0)
+            );
+        }
+    }
+}
+
+/// Runs of no steps.
+fn by_state(sides: &Sides) {
+    let name = sides.judged.name;
+    println!("\n| resume, no steps | {name} ns | plain ns | ratio |");
+    println!("|---|---:|---:|---:|");
+    let row = |label: String, file: &File, steps: u64| {
+        let bytes = file.bytes();
+        let times = sides.run(&bytes, &sides.after(&bytes, steps), 0);
+        println!("| {label} | {}", cells(times, 0));
+    };
+    row("typical procedure, after 40 steps".to_string(), &cases::typical(), 40);
+    for size in [128, 1024, 4096] {
+        row(format!("{size} nodes, main()"), &shapes::calls(size), 0);
+        row(format!("{size} nodes, after 40 steps"), &shapes::calls(size), 40);
+    }
+    row("4,096 nodes, 512 frames".to_string(), &shapes::calls(4096), 513);
+}

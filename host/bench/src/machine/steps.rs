@@ -1,0 +1,23 @@
+//! The time of a step, by the mix of rules.
+
+use super::{cells, Sides};
+use files::endless;
+use reference::machine::Outcome;
+
+/// The steps of a timed run.
+const STEPS: u64 = 20_000;
+
+/// Prints the time of a step in each program that runs without end.
+pub fn print(sides: &Sides) {
+    let name = sides.judged.name;
+    println!("\n| program | {name} ns/step | plain ns/step | ratio | {name}, million steps/s |");
+    println!("|---|---:|---:|---:|---:|");
+    for (program, make) in endless::ALL {
+        let file = make().bytes();
+        let memory = sides.after(&file, 1_000);
+        let answer = (sides.plain.run)(&file, &mut memory.clone(), STEPS);
+        assert_eq!(answer, Ok((Outcome::Spent, STEPS)), "{program}");
+        let times = sides.step(&file, &memory, STEPS);
+        println!("| {program} | {} {:.0} |", cells(times, 2), 1e3 / times[0].max(0.01));
+    }
+}
