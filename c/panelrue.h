@@ -1,0 +1,84 @@
+/*
+ * Panelrue for hosts in C and C++: check, start, run, memory check and look-up of test procedures.
+ *
+ * `rt staticlib panelrue_c` proves the library and writes target/staticlib/libpanelrue_c.a. It needs memcpy and memset and nothing
+ * else: no heap, no clock, no file, no global data.
+ *
+ * What the caller owes, for every call: a pointer is never null, not even with length 0; it points to as many elements as the length
+ * beside it says, aligned for their type; what a call may write (memory of start and run, answer) overlaps nothing else that the call
+ * gets; and nobody else writes any of it until the call returns. Content is never owed: any bytes, words and numbers are taken.
+ *
+ * Each function answers 0 where the call is accepted. Else the number says the question that refused it (1 to 17), the place and the
+ * item; PANELRUE_QUESTION, PANELRUE_PLACE and PANELRUE_ITEM take it apart. A refused call changes nothing.
+ */
+#ifndef PANELRUE_H
+#define PANELRUE_H
+
+#include <stddef.h>
+#include <stdint.h>
+
+#ifdef __cplusplus
+extern "C" {
+#endif
+
+/* The bytes of the longest procedure that can pass: a header, 128 functions and 4,096 nodes of 12 bytes each. */
+#define PANELRUE_LONGEST_FILE 50700
+
+/* The words of 32 bits of a state's image, which start, run, memory check and look-up want at least; later words never change. */
+#define PANELRUE_WORDS 16384
+
+/* The words of 64 bits that a run and a look-up answer in; with less room they write none. */
+#define PANELRUE_RUN_ROOM 3
+#define PANELRUE_LOOK_ROOM 2
+
+/* The parts of a refusal. The place counts records: 0 the header, then functions, then nodes. Question 10 alone has an item, a variable. */
+#define PANELRUE_QUESTION(number) ((unsigned)((number) & 255u))
+#define PANELRUE_ITEM(number) ((unsigned)((number) >> 8 & 255u))
+#define PANELRUE_PLACE(number) ((unsigned long)((number) >> 16))
+
+/* Refusals that speak of the call's memory or variable; 1 to 14 speak of the file. */
+#define PANELRUE_MEMORY_SHORT 15u
+#define PANELRUE_MEMORY_UNFIT 16u
+#define PANELRUE_NO_VARIABLE 17u
+
+/* How a run stopped: the first word of its answer. */
+#define PANELRUE_VALUE 0u /* main returned; the int is the second word */
+#define PANELRUE_ARITH 1u /* a division or remainder without a result */
+#define PANELRUE_ABORT 2u /* an assert failed */
+#define PANELRUE_SPENT 3u /* the allowance was used up; run again to go on */
+#define PANELRUE_FULL 4u  /* the next state would pass a limit (32 saved callers, 512 frames); running again changes nothing */
+
+/* What a variable holds: the first word of a look-up's answer. */
+#define PANELRUE_NOTHING 0u
+#define PANELRUE_INT 1u
+#define PANELRUE_BOOL 2u
+
+/* Whether the file is a procedure that may run: questions 1 to 14. */
+uint64_t panelrue_check(const uint8_t *file, size_t length);
+
+/* Questions 1 to 15; then writes the state before main's first step over the first 16,384 words, whatever they held. */
+uint64_t panelrue_start(const uint8_t *file, size_t length, uint32_t *memory, size_t words);
+
+/*
+ * Questions 1 to 16; then takes the state in the memory on by at most `allowance` steps, to a final outcome or to a limit, and writes
+ * the outcome, the int's 32 bits (0 unless a value) and the steps taken into answer[0] to answer[2], if `room` is 3 or more. A run
+ * that has ended answers its end again with 0 steps.
+ */
+uint64_t panelrue_run(const uint8_t *file, size_t length, uint32_t *memory, size_t words, uint64_t allowance, uint64_t *answer,
+                      size_t room);
+
+/* Whether the memory holds a state from which this file's procedure can safely go on: questions 1 to 16. */
+uint64_t panelrue_memory_check(const uint8_t *file, size_t length, const uint32_t *memory, size_t words);
+
+/*
+ * Questions 1 to 17; then writes the type and the word (an int's 32 bits, a bool's 0 or 1, else 0) of a variable of the function that
+ * is running into answer[0] and answer[1], if `room` is 2 or more. Before main is entered and at every end there is no variable.
+ */
+uint64_t panelrue_look_up(const uint8_t *file, size_t length, const uint32_t *memory, size_t words, uint32_t variable,
+                          uint64_t *answer, size_t room);
+
+#ifdef __cplusplus
+}
+#endif
+
+#endif
