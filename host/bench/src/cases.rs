@@ -1,5 +1,6 @@
 //! The check on a small, a typical, the largest and the deepest files.
 
+use crate::grouped;
 use crate::timing::{checks, medians};
 use files::rng::Rng;
 use files::tree::{int, main, ret};
@@ -29,7 +30,12 @@ pub fn print(name: &str) {
         let [judged, plain] = medians(&bytes, checks());
         let (functions, nodes) = (file.functions.len(), file.nodes.len());
         let ratio = judged / plain;
-        println!("| {label} | {functions} | {nodes} | {judged:.0} | {plain:.0} | {ratio:.2} |");
+        println!(
+            "| {label} | {functions} | {} | {} | {} | {ratio:.2} |",
+            grouped(nodes as f64),
+            grouped(judged),
+            grouped(plain)
+        );
     }
     println!();
 }

@@ -7,6 +7,7 @@ mod memory;
 mod resume;
 mod steps;
 
+use crate::grouped;
 use crate::timing::medians_of;
 use files::File;
 use reference::image::{ACTIVATION, ACTIVATIONS, FRAMES, WORDS};
@@ -92,14 +93,19 @@ fn held(memory: &[u32]) -> (usize, usize) {
     (counts.take(callers).sum(), callers)
 }
 
-/// Two times with their ratio, as the last cells of a row.
-fn cells([judged, plain]: [f64; 2], digits: usize) -> String {
-    format!("{judged:.digits$} | {plain:.digits$} | {:.2} |", judged / plain)
+/// Two times of a step with their ratio, as the last cells of a row.
+fn fine([judged, plain]: [f64; 2]) -> String {
+    format!("{judged:.2} | {plain:.2} | {:.2} |", judged / plain)
 }
 
-/// The nodes of a file.
-fn nodes(file: &File) -> usize {
-    file.nodes.len()
+/// Two times of a call with their ratio, as the last cells of a row.
+fn cells([judged, plain]: [f64; 2]) -> String {
+    format!("{} | {} | {:.2} |", grouped(judged), grouped(plain), judged / plain)
+}
+
+/// The number of a file's nodes.
+fn nodes(file: &File) -> String {
+    grouped(file.nodes.len() as f64)
 }
 
 /// Prints all tables.

@@ -48,26 +48,42 @@ fn entries() -> Vec<Entry> {
     all
 }
 
-/// Prints the table of all files.
-fn print_rows(name: &str, rows: &[Row]) {
-    println!("| shape | nodes | {name} ns/file | plain ns/file | {name} ns/node | plain ns/node | ratio |");
-    println!("|---|---:|---:|---:|---:|---:|---:|");
-    for Row { entry, slow, plain } in rows {
-        let nodes = entry.nodes as f64;
+/// A number with its thousands apart.
+fn grouped(number: f64) -> String {
+    let digits = format!("{number:.0}");
+    let place = |i: usize| i > 0 && (digits.len() - i).is_multiple_of(3);
+    let apart =
+        digits.char_indices().map(|(i, c)| if place(i) { format!(",{c}") } else { c.to_string() });
+    apart.collect()
+}
+
+/// Prints one row for each shape: the judged side's time at each size, and the plain one's at the greatest.
+fn print_shapes(title: &str, rows: &[Row]) {
+    let sizes: Vec<String> = SIZES.iter().map(|&size| grouped(size as f64)).collect();
+    let last = &sizes[SIZES.len() - 1];
+    println!(
+        "| {title} | {} | plain, {last} | ratio, {} | ratio, {last} |",
+        sizes.join(" | "),
+        sizes[0]
+    );
+    println!("|---{}|", "|---:".repeat(SIZES.len() + 3));
+    for shape in rows.chunks_exact(SIZES.len()) {
+        let times: Vec<String> = shape.iter().map(|row| grouped(row.slow)).collect();
+        let ends = [&shape[0], &shape[SIZES.len() - 1]];
+        let [first, last] = ends.map(|row| row.slow / row.plain);
+        let plain = grouped(ends[1].plain);
         println!(
-            "| {} | {} | {slow:.0} | {plain:.0} | {:.2} | {:.2} | {:.2} |",
-            entry.shape,
-            entry.nodes,
-            slow / nodes,
-            plain / nodes,
-            slow / plain
+            "| {} | {} | {plain} | {first:.2} | {last:.2} |",
+            ends[0].entry.shape,
+            times.join(" | ")
         );
     }
+    println!();
 }
 
 /// Prints the ratios' range and the greatest time for each size, over the files whose nodes are read.
 fn print_summary(name: &str, rows: &[Row]) {
-    println!("\n| size | least ratio | median ratio | greatest ratio | slowest {name} ns/file | its shape |");
+    println!("| size | least ratio | median ratio | greatest ratio | slowest {name} ns/file | its shape |");
     println!("|---:|---:|---:|---:|---:|---|");
     for size in SIZES {
         let own: Vec<&Row> =
@@ -123,7 +139,9 @@ fn run() {
             Row { entry, slow, plain }
         })
         .collect();
-    print_rows(name, &rows);
+    let (accepted, refused) = rows.split_at(shapes::ALL.len() * SIZES.len());
+    print_shapes(&format!("accepted, {name} ns/file by nodes"), accepted);
+    print_shapes(&format!("refused, {name} ns/file by nodes"), refused);
     print_summary(name, &rows);
     print_growth(name, &rows);
     machine::run();

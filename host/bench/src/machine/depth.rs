@@ -1,6 +1,6 @@
 //! The time of a step of one loop, by the frames and the callers under it.
 
-use super::{cells, held, Sides};
+use super::{fine, held, Sides};
 use files::depth::{deep, TURNS};
 
 /// The callers and the seqs around the loop of each row.
@@ -31,7 +31,7 @@ pub fn print(sides: &Sides) {
             assert!((under..under + 8).contains(&frames), "{frames} frames");
             assert!((callers..callers + 2).contains(&saved), "{saved} callers");
             let times = sides.step(&file, &memory, STEPS);
-            println!("| {loop_name} | {under} | {callers} | {}", cells(times, 2));
+            println!("| {loop_name} | {under} | {callers} | {}", fine(times));
             all.iter_mut().zip(times).for_each(|(all, time)| all.push(time));
         }
         let spread = all.map(|times| {

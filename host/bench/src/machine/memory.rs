@@ -1,6 +1,7 @@
 //! The memory check alone: its time less the file check's, by nodes, frames and callers.
 
 use super::{cells, held, nodes, Sides};
+use crate::grouped;
 use crate::timing::{checks, medians};
 use files::depth::{deep, long_loop, nested_whiles, waiting, TURNS};
 use files::{shapes, File};
@@ -73,9 +74,9 @@ fn row(sides: &Sides, label: &str, file: &File, memory: &[u32]) {
     let both = sides.memory_check(&bytes, memory);
     let alone = [0, 1].map(|i| (both[i] - file_check[i]).max(0.0));
     println!(
-        "| {label} | {} | {frames} | {callers} | {:.0} | {}",
+        "| {label} | {} | {frames} | {callers} | {} | {}",
         nodes(file),
-        file_check[0],
-        cells(alone, 0)
+        grouped(file_check[0]),
+        cells(alone)
     );
 }

@@ -1,7 +1,7 @@
 //! The price of a resume: a run of few steps checks the file and the memory first.
 
 use super::{cells, nodes, Sides};
-use crate::cases;
+use crate::{cases, grouped};
 use files::depth::long_loop;
 use files::{shapes, File};
 
@@ -26,13 +26,9 @@ fn by_allowance(sides: &Sides) {
             let times = sides.run(&bytes, &memory, allowance);
             let each = match allowance {
                 0 => "—".to_string(),
-                steps => format!("{:.0}", times[0] / steps as f64),
+                steps => grouped(times[0] / steps as f64),
             };
-            println!(
-                "| {label}, {} nodes | {allowance} | {} {each} |",
-                nodes(&file),
-                cells(times, 0)
-            );
+            println!("| {label}, {} nodes | {allowance} | {} {each} |", nodes(&file), cells(times));
         }
     }
 }
@@ -45,7 +41,7 @@ fn by_state(sides: &Sides) {
     let row = |label: String, file: &File, steps: u64| {
         let bytes = file.bytes();
         let times = sides.run(&bytes, &sides.after(&bytes, steps), 0);
-        println!("| {label} | {}", cells(times, 0));
+        println!("| {label} | {}", cells(times));
     };
     row("typical procedure, after 40 steps".to_string(), &cases::typical(), 40);
     for size in [128, 1024, 4096] {

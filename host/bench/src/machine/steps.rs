@@ -1,6 +1,6 @@
 //! The time of a step, by the mix of rules.
 
-use super::{cells, Sides};
+use super::{fine, Sides};
 use files::endless;
 use reference::machine::Outcome;
 
@@ -18,6 +18,6 @@ pub fn print(sides: &Sides) {
         let answer = (sides.plain.run)(&file, &mut memory.clone(), STEPS);
         assert_eq!(answer, Ok((Outcome::Spent, STEPS)), "{program}");
         let times = sides.step(&file, &memory, STEPS);
-        println!("| {program} | {} {:.0} |", cells(times, 2), 1e3 / times[0].max(0.01));
+        println!("| {program} | {} {:.0} |", fine(times), 1e3 / times[0].max(0.01));
     }
 }
