@@ -8,7 +8,7 @@ mod resume;
 mod steps;
 
 use crate::grouped;
-use crate::timing::medians_of;
+use crate::timing::{checks, medians_of, medians_of_all, Call, Check};
 use files::File;
 use reference::image::{ACTIVATION, ACTIVATIONS, FRAMES, WORDS};
 use std::hint::black_box;
@@ -51,33 +51,48 @@ impl Sides {
         panic!("no state has {frames} frames");
     }
 
-    /// The nanoseconds of a run from a memory on both sides, each going on in its own copy.
-    fn run(&self, file: &[u8], memory: &[u32], allowance: u64) -> [f64; 2] {
-        let (mut first, mut second) = (memory.to_vec(), memory.to_vec());
-        let mut judged = || go_on(&self.judged, file, &mut first, allowance);
-        let mut plain = || go_on(&self.plain, file, &mut second, allowance);
-        medians_of([&mut judged, &mut plain])
+    /// The nanoseconds of a run with each allowance on both sides, all timed in turn, each going on in its own copy of a memory.
+    fn runs(&self, file: &[u8], memory: &[u32], allowances: &[u64]) -> Vec<[f64; 2]> {
+        let calls = allowances.iter().flat_map(|&allowance| {
+            [self.judged, self.plain].map(|side| {
+                let mut memory = memory.to_vec();
+                Box::new(move || go_on(&side, file, &mut memory, allowance)) as Call
+            })
+        });
+        medians_of_all(calls).chunks_exact(2).map(|times| [times[0], times[1]]).collect()
     }
 
-    /// The nanoseconds of a step from a memory on both sides: a run of so many less a run of none.
-    fn step(&self, file: &[u8], memory: &[u32], steps: u64) -> [f64; 2] {
-        let mut copies = [0; 4].map(|_| memory.to_vec());
-        let [a, b, c, d] = &mut copies;
-        let [idle, plain_idle, busy, plain_busy] = medians_of([
-            &mut || go_on(&self.judged, file, a, 0),
-            &mut || go_on(&self.plain, file, b, 0),
-            &mut || go_on(&self.judged, file, c, steps),
-            &mut || go_on(&self.plain, file, d, steps),
-        ]);
-        [busy - idle, plain_busy - plain_idle].map(|time| time.max(0.0) / steps as f64)
+    /// The nanoseconds of a step from each memory on both sides: a run of so many less a run of none, all timed in turn.
+    fn steps(&self, from: &[(Vec<u8>, Vec<u32>)], steps: u64) -> Vec<[f64; 2]> {
+        let ways = [(self.judged, 0), (self.plain, 0), (self.judged, steps), (self.plain, steps)];
+        let calls = from.iter().flat_map(|(file, memory)| {
+            ways.map(|(side, allowance)| {
+                let mut memory = memory.clone();
+                Box::new(move || go_on(&side, file, &mut memory, allowance)) as Call
+            })
+        });
+        let each = |times: &[f64]| {
+            [times[2] - times[0], times[3] - times[1]].map(|time| time.max(0.0) / steps as f64)
+        };
+        medians_of_all(calls).chunks_exact(ways.len()).map(each).collect()
     }
 
-    /// The nanoseconds of a memory check on both sides.
-    fn memory_check(&self, file: &[u8], memory: &[u32]) -> [f64; 2] {
-        let one = |side: &Entries| {
+    /// The nanoseconds of a check of the file and of a memory check, each on both sides, all timed in turn.
+    fn checks(&self, file: &[u8], memory: &[u32]) -> [[f64; 2]; 2] {
+        let check = |check: Check| {
+            assert_eq!(black_box(check(black_box(file))), None);
+        };
+        let memory_check = |side: &Entries| {
             assert_eq!(black_box((side.memory_check)(black_box(file), black_box(memory))), None);
         };
-        medians_of([&mut || one(&self.judged), &mut || one(&self.plain)])
+        let [judged, plain] = checks();
+        let [a, b, c, d] = medians_of([
+            &mut || check(judged),
+            &mut || check(plain),
+            &mut || memory_check(&self.judged),
+            &mut || memory_check(&self.plain),
+        ]);
+        [[a, b], [c, d]]
     }
 }
 

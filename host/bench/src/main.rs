@@ -7,7 +7,7 @@ mod machine;
 mod timing;
 
 use files::{late, shapes};
-use timing::{checks, judged, medians};
+use timing::{ask, checks, judged, medians_of_all, Call};
 
 /// The numbers of nodes timed.
 const SIZES: [usize; 6] = [128, 256, 512, 1024, 2048, 4096];
@@ -126,19 +126,33 @@ fn print_growth(name: &str, rows: &[Row]) {
     }
 }
 
-/// Times every file on both sides.
+/// Times every file on both sides, all sizes of a shape in turn.
+fn timed(entries: Vec<Entry>) -> Vec<Row> {
+    let sides = checks();
+    let mut times = Vec::new();
+    for shape in entries.chunks(SIZES.len()) {
+        let calls = shape.iter().flat_map(|entry| {
+            assert_eq!(sides[0](&entry.file), sides[1](&entry.file), "{}", entry.shape);
+            sides.map(|check| Box::new(move || ask(check, &entry.file)) as Call)
+        });
+        times.extend(medians_of_all(calls));
+    }
+    let pairs = times.chunks_exact(2);
+    entries
+        .into_iter()
+        .zip(pairs)
+        .map(|(entry, t)| Row { entry, slow: t[0], plain: t[1] })
+        .collect()
+}
+
+/// Prints all tables.
 fn run() {
     let name = judged().name;
+    if name != "proved" {
+        eprintln!("the proved library is not linked (feature `machine`)");
+    }
     cases::print(name);
-    let rows: Vec<Row> = entries()
-        .into_iter()
-        .map(|entry| {
-            let checks = checks();
-            assert_eq!(checks[0](&entry.file), checks[1](&entry.file), "{}", entry.shape);
-            let [slow, plain] = medians(&entry.file, checks);
-            Row { entry, slow, plain }
-        })
-        .collect();
+    let rows = timed(entries());
     let (accepted, refused) = rows.split_at(shapes::ALL.len() * SIZES.len());
     print_shapes(&format!("accepted, {name} ns/file by nodes"), accepted);
     print_shapes(&format!("refused, {name} ns/file by nodes"), refused);

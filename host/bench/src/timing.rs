@@ -5,7 +5,7 @@ use std::time::{Duration, Instant};
 use tests::{sides, Answer, Side};
 
 /// A check under time.
-type Check = fn(&[u8]) -> Answer;
+pub type Check = fn(&[u8]) -> Answer;
 
 /// The check to judge, which is the proved one where it is linked.
 pub fn judged() -> Side {
@@ -44,24 +44,36 @@ fn calls_for(call: &mut dyn FnMut()) -> u32 {
 
 /// The median nanoseconds of one check of a file by each check.
 pub fn medians(file: &[u8], checks: [Check; 2]) -> [f64; 2] {
-    let ask = |side: usize| {
-        black_box(checks[side](black_box(file)));
-    };
-    let (mut first, mut second) = (|| ask(0), || ask(1));
-    medians_of([&mut first, &mut second])
+    medians_of([&mut || ask(checks[0], file), &mut || ask(checks[1], file)])
 }
+
+/// One check of a file.
+pub fn ask(check: Check, file: &[u8]) {
+    black_box(check(black_box(file)));
+}
+
+/// A call under time.
+pub type Call<'a> = Box<dyn FnMut() + 'a>;
 
 /// The median nanoseconds of each call, with the samples taken in turn.
 pub fn medians_of<const N: usize>(calls: [&mut dyn FnMut(); N]) -> [f64; N] {
-    let mut timed = calls.map(|call| (calls_for(call), call, Vec::new()));
+    let mut medians = medians_of_all(calls.into_iter().map(|call| Box::new(call) as Call));
+    std::array::from_fn(|_| medians.remove(0))
+}
+
+/// The same of any number of calls.
+pub fn medians_of_all<'a>(calls: impl Iterator<Item = Call<'a>>) -> Vec<f64> {
+    let mut timed: Vec<_> =
+        calls.map(|mut call| (calls_for(&mut call), call, Vec::new())).collect();
     for _ in 0..SAMPLES {
         for (count, call, samples) in &mut timed {
-            let taken = time(*call, *count);
+            let taken = time(call, *count);
             samples.push(taken.as_nanos() as f64 / f64::from(*count));
         }
     }
-    timed.map(|(_, _, mut samples)| {
+    let median = |(_, _, mut samples): (u32, Call, Vec<f64>)| {
         samples.sort_by(f64::total_cmp);
         samples[samples.len() / 2]
-    })
+    };
+    timed.into_iter().map(median).collect()
 }

@@ -2,6 +2,7 @@
 
 use super::{fine, held, Sides};
 use files::depth::{deep, TURNS};
+use files::tree::Stmt;
 
 /// The callers and the seqs around the loop of each row.
 const DEPTHS: [(usize, usize); 8] =
@@ -22,27 +23,35 @@ pub fn print(sides: &Sides) {
     println!("|---|---:|---:|---:|---:|---:|");
     let mut spreads = Vec::new();
     for (loop_name, turn) in TURNS {
-        let mut all = [Vec::new(), Vec::new()];
-        for (callers, seqs) in DEPTHS {
-            let file = deep(callers, seqs, turn()).bytes();
-            let memory = sides.after(&file, REACHED);
-            let (frames, saved) = held(&memory);
-            let under = callers + seqs;
-            assert!((under..under + 8).contains(&frames), "{frames} frames");
-            assert!((callers..callers + 2).contains(&saved), "{saved} callers");
-            let times = sides.step(&file, &memory, STEPS);
-            println!("| {loop_name} | {under} | {callers} | {}", fine(times));
-            all.iter_mut().zip(times).for_each(|(all, time)| all.push(time));
+        let from = DEPTHS.map(|(callers, seqs)| reached(sides, callers, seqs, turn()));
+        let times = sides.steps(&from, STEPS);
+        for ((callers, seqs), times) in DEPTHS.iter().zip(&times) {
+            println!("| {loop_name} | {} | {callers} | {}", callers + seqs, fine(*times));
         }
-        let spread = all.map(|times| {
-            let greatest = times.iter().copied().fold(0.0, f64::max);
-            greatest / times.iter().copied().fold(f64::INFINITY, f64::min)
-        });
-        spreads.push((loop_name, spread));
+        spreads.push((loop_name, [0, 1].map(|side| spread(times.iter().map(|both| both[side])))));
     }
     println!("\n| greatest time of a step by least, over these depths | {name} | plain |");
     println!("|---|---:|---:|");
     for (loop_name, [judged, plain]) in spreads {
         println!("| {loop_name} | {judged:.2} | {plain:.2} |");
     }
+}
+
+/// The loop's file and the memory of a state inside the loop.
+fn reached(sides: &Sides, callers: usize, seqs: usize, turn: Stmt) -> (Vec<u8>, Vec<u32>) {
+    let file = deep(callers, seqs, turn).bytes();
+    let memory = sides.after(&file, REACHED);
+    let (frames, saved) = held(&memory);
+    let under = callers + seqs;
+    assert!((under..under + 8).contains(&frames), "{frames} frames");
+    assert!((callers..callers + 2).contains(&saved), "{saved} callers");
+    (file, memory)
+}
+
+/// The greatest time by the least.
+fn spread(times: impl Iterator<Item = f64>) -> f64 {
+    let ends = (f64::INFINITY, 0.0_f64);
+    let (least, greatest) =
+        times.fold(ends, |(least, greatest), time| (least.min(time), greatest.max(time)));
+    greatest / least
 }

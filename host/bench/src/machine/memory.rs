@@ -2,7 +2,6 @@
 
 use super::{cells, held, nodes, Sides};
 use crate::grouped;
-use crate::timing::{checks, medians};
 use files::depth::{deep, long_loop, nested_whiles, waiting, TURNS};
 use files::{shapes, File};
 use reference::image::encode_into;
@@ -70,8 +69,7 @@ fn repeated(file: &File, frames: usize) -> Vec<u32> {
 fn row(sides: &Sides, label: &str, file: &File, memory: &[u32]) {
     let bytes = file.bytes();
     let (frames, callers) = held(memory);
-    let file_check = medians(&bytes, checks());
-    let both = sides.memory_check(&bytes, memory);
+    let [file_check, both] = sides.checks(&bytes, memory);
     let alone = [0, 1].map(|i| (both[i] - file_check[i]).max(0.0));
     println!(
         "| {label} | {} | {frames} | {callers} | {} | {}",

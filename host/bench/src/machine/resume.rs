@@ -22,8 +22,8 @@ fn by_allowance(sides: &Sides) {
     for (label, file) in [("medium loop", long_loop(512)), ("large loop", long_loop(4096))] {
         let bytes = file.bytes();
         let memory = sides.after(&bytes, 1_000);
-        for allowance in ALLOWANCES {
-            let times = sides.run(&bytes, &memory, allowance);
+        let times = sides.runs(&bytes, &memory, &ALLOWANCES);
+        for (allowance, times) in ALLOWANCES.into_iter().zip(times) {
             let each = match allowance {
                 0 => "—".to_string(),
                 steps => grouped(times[0] / steps as f64),
@@ -40,8 +40,8 @@ fn by_state(sides: &Sides) {
     println!("|---|---:|---:|---:|");
     let row = |label: String, file: &File, steps: u64| {
         let bytes = file.bytes();
-        let times = sides.run(&bytes, &sides.after(&bytes, steps), 0);
-        println!("| {label} | {}", cells(times));
+        let times = sides.runs(&bytes, &sides.after(&bytes, steps), &[0]);
+        println!("| {label} | {}", cells(times[0]));
     };
     row("typical procedure, after 40 steps".to_string(), &cases::typical(), 40);
     for size in [128, 1024, 4096] {
