@@ -8,7 +8,7 @@ mod resume;
 mod steps;
 
 use crate::grouped;
-use crate::timing::{checks, medians_of, medians_of_all, Call, Check};
+use crate::timing::{ask, checks, medians_of_all, Call};
 use files::File;
 use reference::image::{ACTIVATION, ACTIVATIONS, FRAMES, WORDS};
 use std::hint::black_box;
@@ -77,22 +77,26 @@ impl Sides {
         medians_of_all(calls).chunks_exact(ways.len()).map(each).collect()
     }
 
-    /// The nanoseconds of a check of the file and of a memory check, each on both sides, all timed in turn.
-    fn checks(&self, file: &[u8], memory: &[u32]) -> [[f64; 2]; 2] {
-        let check = |check: Check| {
-            assert_eq!(black_box(check(black_box(file))), None);
-        };
-        let memory_check = |side: &Entries| {
-            assert_eq!(black_box((side.memory_check)(black_box(file), black_box(memory))), None);
-        };
+    /// The nanoseconds of a check of each file and of a memory check of each memory, on both sides, all timed in turn.
+    fn checks(&self, from: &[(File, Vec<u32>)]) -> Vec<[[f64; 2]; 2]> {
+        let files: Vec<Vec<u8>> = from.iter().map(|(file, _)| file.bytes()).collect();
         let [judged, plain] = checks();
-        let [a, b, c, d] = medians_of([
-            &mut || check(judged),
-            &mut || check(plain),
-            &mut || memory_check(&self.judged),
-            &mut || memory_check(&self.plain),
-        ]);
-        [[a, b], [c, d]]
+        let calls = files.iter().zip(from).flat_map(|(file, (_, memory))| {
+            let memory_check = |side: Entries| {
+                Box::new(move || {
+                    let answer = (side.memory_check)(black_box(file), black_box(memory));
+                    assert_eq!(black_box(answer), None);
+                })
+            };
+            [
+                Box::new(|| ask(judged, file)) as Call,
+                Box::new(|| ask(plain, file)),
+                memory_check(self.judged),
+                memory_check(self.plain),
+            ]
+        });
+        let times = medians_of_all(calls);
+        times.chunks_exact(4).map(|t| [[t[0], t[1]], [t[2], t[3]]]).collect()
     }
 }
 

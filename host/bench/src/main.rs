@@ -95,9 +95,10 @@ fn print_summary(name: &str, rows: &[Row]) {
             (ratios.first(), ratios.last(), slowest)
         {
             println!(
-                "| {size} | {least:.2} | {:.2} | {greatest:.2} | {:.0} | {} |",
+                "| {} | {least:.2} | {:.2} | {greatest:.2} | {} | {} |",
+                grouped(size as f64),
                 ratios[ratios.len() / 2],
-                slowest.slow,
+                grouped(slowest.slow),
                 slowest.entry.shape
             );
         }

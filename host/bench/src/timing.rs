@@ -5,7 +5,7 @@ use std::time::{Duration, Instant};
 use tests::{sides, Answer, Side};
 
 /// A check under time.
-pub type Check = fn(&[u8]) -> Answer;
+type Check = fn(&[u8]) -> Answer;
 
 /// The check to judge, which is the proved one where it is linked.
 pub fn judged() -> Side {

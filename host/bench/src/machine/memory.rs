@@ -3,7 +3,8 @@
 use super::{cells, held, nodes, Sides};
 use crate::grouped;
 use files::depth::{deep, long_loop, nested_whiles, waiting, TURNS};
-use files::{shapes, File};
+use files::shapes::calls;
+use files::File;
 use reference::image::encode_into;
 use reference::machine::program::{Node, Program, Stmt};
 use reference::machine::{Activation, Control, Frame, Ref, Running, State, Value};
@@ -13,40 +14,42 @@ pub fn print(sides: &Sides) {
     let name = sides.judged.name;
     println!("\n| memory | nodes | frames | callers | {name} ns, file check | {name} ns, memory check alone | plain ns, alone | ratio |");
     println!("|---|---:|---:|---:|---:|---:|---:|---:|");
-    for size in [512, 1024, 2048, 4096] {
-        let file = long_loop(size);
-        row(sides, "long loop", &file, &sides.after(&file.bytes(), 1_000));
-    }
-    let file = waiting(4096);
-    for frames in [2, 64, 128, 256, 500] {
-        row(sides, "assigns that wait", &file, &sides.at_frames(&file.bytes(), frames));
-    }
-    let file = shapes::calls(4096);
-    for frames in [2, 128, 512] {
-        row(sides, "arguments that wait", &file, &sides.at_frames(&file.bytes(), frames));
-    }
-    for callers in [2, 8, 16, 31] {
-        let file = deep(callers, 0, TURNS[0].1());
-        row(sides, "recursion", &file, &sides.after(&file.bytes(), 10_000));
-    }
-    for whiles in [32, 128, 500] {
+    let sizes = [512, 1024, 2048, 4096].map(long_loop);
+    rows(sides, "long loop, its first turn", sizes.map(|file| at(sides, file, 3)));
+    let frames = [2, 64, 128, 256, 500];
+    rows(sides, "assigns that wait", frames.map(|frames| at(sides, waiting(4096), frames)));
+    let frames = [2, 128, 512];
+    rows(sides, "arguments that wait", frames.map(|frames| at(sides, calls(4096), frames)));
+    let files = [2, 8, 16, 31].map(|callers| deep(callers, 0, TURNS[0].1()));
+    rows(sides, "recursion", files.map(|file| after(sides, file, 10_000)));
+    let nested = [32, 128, 500].map(|whiles| {
         let file = nested_whiles(whiles, 4088 - 2 * whiles);
-        row(
-            sides,
-            "whiles that wait in each other",
-            &file,
-            &sides.at_frames(&file.bytes(), whiles + 1),
-        );
-    }
-    for frames in [32, 128, 512] {
+        at(sides, file, whiles + 1)
+    });
+    rows(sides, "whiles that wait in each other", nested);
+    let again = frames_of_one_while([32, 128, 512]);
+    rows(sides, "the if of one long while that waits again and again", again);
+}
+
+/// A file with the memory after so many steps.
+fn after(sides: &Sides, file: File, steps: u64) -> (File, Vec<u32>) {
+    let memory = sides.after(&file.bytes(), steps);
+    (file, memory)
+}
+
+/// A file with the memory of its first state of so many frames.
+fn at(sides: &Sides, file: File, frames: usize) -> (File, Vec<u32>) {
+    let memory = sides.at_frames(&file.bytes(), frames);
+    (file, memory)
+}
+
+/// A long loop with memories in which the if of its while waits so many times.
+fn frames_of_one_while(frames: [usize; 3]) -> [(File, Vec<u32>); 3] {
+    frames.map(|frames| {
         let file = long_loop(4096);
-        row(
-            sides,
-            "the if of one long while that waits again and again",
-            &file,
-            &repeated(&file, frames),
-        );
-    }
+        let memory = repeated(&file, frames);
+        (file, memory)
+    })
 }
 
 /// The image of a state that no run reaches: the if of main's while waits so many times over main's body.
@@ -65,16 +68,12 @@ fn repeated(file: &File, frames: usize) -> Vec<u32> {
     memory
 }
 
-/// One memory: the check of its file, and the memory check less that.
-fn row(sides: &Sides, label: &str, file: &File, memory: &[u32]) {
-    let bytes = file.bytes();
-    let (frames, callers) = held(memory);
-    let [file_check, both] = sides.checks(&bytes, memory);
-    let alone = [0, 1].map(|i| (both[i] - file_check[i]).max(0.0));
-    println!(
-        "| {label} | {} | {frames} | {callers} | {} | {}",
-        nodes(file),
-        grouped(file_check[0]),
-        cells(alone)
-    );
+/// A row for each memory: the check of its file, and the memory check less that.
+fn rows<const N: usize>(sides: &Sides, label: &str, from: [(File, Vec<u32>); N]) {
+    for ((file, memory), [check, both]) in from.iter().zip(sides.checks(&from)) {
+        let (frames, callers) = held(memory);
+        let alone = [0, 1].map(|i| (both[i] - check[i]).max(0.0));
+        let (nodes, check, alone) = (nodes(file), grouped(check[0]), cells(alone));
+        println!("| {label} | {nodes} | {frames} | {callers} | {check} | {alone}");
+    }
 }

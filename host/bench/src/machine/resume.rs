@@ -28,7 +28,12 @@ fn by_allowance(sides: &Sides) {
                 0 => "—".to_string(),
                 steps => grouped(times[0] / steps as f64),
             };
-            println!("| {label}, {} nodes | {allowance} | {} {each} |", nodes(&file), cells(times));
+            println!(
+                "| {label}, {} nodes | {} | {} {each} |",
+                nodes(&file),
+                grouped(allowance as f64),
+                cells(times)
+            );
         }
     }
 }
@@ -45,8 +50,9 @@ fn by_state(sides: &Sides) {
     };
     row("typical procedure, after 40 steps".to_string(), &cases::typical(), 40);
     for size in [128, 1024, 4096] {
-        row(format!("{size} nodes, main()"), &shapes::calls(size), 0);
-        row(format!("{size} nodes, after 40 steps"), &shapes::calls(size), 40);
+        let nodes = grouped(size as f64);
+        row(format!("{nodes} nodes, main()"), &shapes::calls(size), 0);
+        row(format!("{nodes} nodes, after 40 steps"), &shapes::calls(size), 40);
     }
     row("4,096 nodes, 512 frames".to_string(), &shapes::calls(4096), 513);
 }
