@@ -1,0 +1,1 @@
+// How statements take any set of variables on, in words: definitions and laws; the code that fills them stands above.
