@@ -1,0 +1,4 @@
+mod Ranges
+mod Filling
+mod Arms
+mod Stored
