@@ -54,10 +54,10 @@ none-of k a b c d e f g h = go (decLt k 7)
     go (no y) = inr (four-more k 11 (four-more k 7 (not-below k y) a b c d) e f g h)
 
 module _ {s : List ℕ} {f : ℕ} {t : List ℕ} {n : ℕ} (p : Part s f t n) {i : ℕ} (l : i < n) where
-  sorted : (i kind j m : ℕ) → i < n → kindAt t i ≡ kind → arityOf kind (aAt t i) ≡ 1 + j + m → isExpression (kindAt t (back t j (last i))) ≡ wantsExpression kind m
+  pub sorted : (i kind j m : ℕ) → i < n → kindAt t i ≡ kind → arityOf kind (aAt t i) ≡ 1 + j + m → isExpression (kindAt t (back t j (last i))) ≡ wantsExpression kind m
   sorted = rw (p .part, p .count) (sort-at s (all p) f (p .known))
 
-  kid : (kind j m : ℕ) → kindAt t i ≡ kind → arityOf kind (aAt t i) ≡ 1 + j + m → back t j (last i) < i
+  pub kid : (kind j m : ℕ) → kindAt t i ≡ kind → arityOf kind (aAt t i) ≡ 1 + j + m → back t j (last i) < i
   kid kind j m e a = child-at t n (sized p) i kind j m l e a .below
 
   -- a statement with children has one right before it

@@ -2,3 +2,4 @@ mod Ranges
 mod Filling
 mod Arms
 mod Stored
+pub mod Looking

@@ -4,7 +4,7 @@ use mathlib.Core.Bool.{Bool, true, false}
 use mathlib.Core.List.{List}
 use Prim.Native.Nat.{ℕ, _+_, _*_, _%_, _≤_, _<_}
 use lib.Dec.{eqb, leb}
-use lib.ListN.{getD}
+use lib.ListN.{length, getD}
 use Rattle.varset.specs.Sets.{Set, has}
 use Rattle.records.specs.Fields.{kindAt, bAt}
 use Rattle.language.specs.Sorts.{isExpression}
@@ -39,3 +39,7 @@ Rowed s table i = Summary s (failsIn (wordOf table i 0)) (returnsIn (wordOf tabl
 pub record Filled (t table : List ℕ) (i : ℕ) : Type 0 where
   pub reads : (k : ℕ) → k < i → isExpression (kindAt t k) ≡ true → Needs (readsOf t k) (wordOf table k 1)
   pub flows : (k : ℕ) → k < i → isExpression (kindAt t k) ≡ false → Rowed (statementAt t k) table k
+
+-- the table of all n nodes of a part
+abbrev pub Tabled : List ℕ → ℕ → List ℕ → Type 0
+Tabled t n table = Filled t table n × (5 * n ≤ length table)

@@ -1,0 +1,59 @@
+-- The rows that a table of a part has for a function's expressions and statements.
+use mathlib.Core.Path.{_≡_, refl, sym, ap, _∙_}
+use mathlib.Core.Bool.{Bool, true, false, _&&_, _||_}
+use mathlib.Core.List.{List}
+use Prim.Native.Nat.{ℕ, _+_, _-_, _*_, _≤_, _<_}
+use native.Mathlib.Omega.{arith}
+use lib.ListN.{length}
+use lib.Dec.{eqb, leb, ltb}
+use borrow.Author.Tests.{leb-true, le-ltb, ne-eqb}
+use Rattle.records.specs.Fields.{kindAt, sizeAt}
+use Rattle.records.specs.Children.{arityOf, arities}
+use Rattle.records.proofs.Bools.{and-left, and-right}
+use Rattle.language.specs.Sorts.{isExpression, wantsExpression}
+use Rattle.language.specs.Statements.{last, prior, readsOf, statementAt}
+use Rattle.semantics.specs.Program.{node}
+use Rattle.semantics.specs.File.{programOf}
+use Rattle.semantics.specs.Test.{exprIn, stmtIn}
+use Rattle.summaries.specs.Summary.{Needs}
+use Rattle.nodefacts.specs.Part.{Part}
+use Rattle.nodefacts.proofs.Sorts.{own-expression, expression-inside, node-sort}
+use Rattle.tables.specs.Tables.{wordOf, Rowed, Filled, Tabled}
+use Rattle.tables.proofs.Arms.{sorted, kid}
+
+-- kinds 7 to 14 are no expressions
+no-expression : (k : ℕ) → 7 ≤ k → k ≤ 14 → isExpression k ≡ false
+unfolding isExpression
+no-expression k a b = rw (le-ltb k 6 (omega arith), ne-eqb k 15 (λ e. omega arith))
+
+module _ {s : List ℕ} {f : ℕ} {t : List ℕ} {n : ℕ} (p : Part s f t n) {table : List ℕ} (o : Tabled t n table) where
+  pub row-room : {i : ℕ} → i < n → 5 * i + 5 ≤ length table
+  row-room l = omega (arith, o .1)
+
+  -- an expression of the function
+  pub expression-row : (i : ℕ) → exprIn (programOf s) f i ≡ true → Needs (readsOf t i) (wordOf table i 1)
+  unfolding isExpression
+  expression-row i h = let l = expression-inside p i h in o .0 .reads i l (own-expression p i l refl ∙ h)
+
+  -- a statement of the function
+  pub statement-row : (i : ℕ) → i < n → (ltb i n && (leb 7 (kindAt t i) && leb (kindAt t i) 14)) ≡ true → Rowed (statementAt t i) table i
+  statement-row i l h =
+      let k = and-right (ltb i n) _ h in
+      o .0 .flows i l (no-expression (kindAt t i) (leb-true 7 _ (and-left (leb 7 (kindAt t i)) _ k)) (leb-true _ 14 (and-right (leb 7 (kindAt t i)) _ k)))
+
+  -- a while, its body and its condition
+  module _ {w : ℕ} (l : w < n) (k : kindAt t w ≡ 11) where
+    pub while-row : Rowed (statementAt t w) table w
+    while-row = o .0 .flows w l (rw k (no-expression 11 (omega arith) (omega arith)))
+
+    pub body-below : w - 1 < w
+    unfolding arityOf arities last
+    body-below = kid p l 11 0 1 k refl
+
+    pub body-row : Rowed (statementAt t (w - 1)) table (w - 1)
+    unfolding arityOf arities last wantsExpression
+    body-row = o .0 .flows (w - 1) (omega (arith, l)) (sorted p l w 11 0 1 l k refl)
+
+    pub condition-row : {e : ℕ} → e ≡ w - 1 - sizeAt t (w - 1) → Needs (readsOf t e) (wordOf table e 1)
+    unfolding arityOf arities last prior wantsExpression
+    condition-row q = rw q (o .0 .reads _ (omega (arith, l)) (sorted p l w 11 1 0 l k refl))
