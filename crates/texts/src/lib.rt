@@ -52,6 +52,56 @@ pub fn put_decimal(out: &mut [u8], at: usize, n: u64) -> usize
     put(out, at, &digits[..k])
 }
 
+// Puts a text and a number after it.
+pub fn put_numbered(out: &mut [u8], at: usize, text: &[u8], n: u64) -> usize
+    ensures { λ r. ⌜ r ≤ length (now (out .exit)) ⌝ }
+{
+    let next = put(out, at, text);
+    put_decimal(out, next, n)
+}
+
+// Where word k of a list begins: past k semicolons, or at the end.
+pub fn word_start(list: &[u8], k: usize) -> usize
+    ensures { λ r. ⌜ r ≤ length (now (list .entry)) ⌝ }
+{
+    let mut left = k;
+    let mut i = 0;
+    while i < list.len() {
+        if left == 0 {
+            return i;
+        }
+        if list[i] == b';' {
+            left -= 1;
+        }
+        i += 1;
+    }
+    i
+}
+
+// Where the word that begins at `start` ends: before the next semicolon, or at the end.
+fn word_end(list: &[u8], start: usize) -> usize
+    requires { ⌜ start ≤ length (now list) ⌝ }
+    ensures { λ r. ⌜ (start ≤ r) × (r ≤ length (now (list .entry))) ⌝ }
+{
+    let mut i = start;
+    while i < list.len() {
+        if list[i] == b';' {
+            return i;
+        }
+        i += 1;
+    }
+    i
+}
+
+// Puts word k of a list whose words stand between semicolons, and nothing where it has no such word.
+pub fn put_word(out: &mut [u8], at: usize, list: &[u8], k: usize) -> usize
+    ensures { λ r. ⌜ r ≤ length (now (out .exit)) ⌝ }
+{
+    let start = word_start(list, k);
+    let end = word_end(list, start);
+    put(out, at, &list[start..end])
+}
+
 // Writes out the bytes that wait, and answers that none does.
 pub fn write_out(out: &[u8], at: usize) -> usize
     ensures { λ r. ⌜ r ≡ 0 ⌝ }
