@@ -34,7 +34,7 @@ fn typical(folder: &Path, count: usize, nodes: usize) -> io::Result<()> {
     Ok(())
 }
 
-/// Writes the deepest trees of each shape, whose first leaf is a nop.
+/// Writes the deepest trees of each shape, whose first leaf is a nop, and a chain of returns.
 fn deep(folder: &Path) -> io::Result<()> {
     let shapes: [(&str, fn(usize) -> File); 8] = [
         ("ands.pr", shapes::ands),
@@ -51,7 +51,13 @@ fn deep(folder: &Path) -> io::Result<()> {
         let first = file.first_node(0);
         file.nodes[first] = NodeRecord::new(6, 0, 0, 1);
         write(folder, name, &file.bytes())
-    })
+    })?;
+    let mut chain = shapes::ands(1024);
+    chain.nodes = (1..=4096).map(|size| NodeRecord::new(12, 0, 0, size)).collect();
+    chain.nodes[0].kind = 0;
+    chain.header.nodes = 4096;
+    chain.functions[0].count = 4096;
+    write(folder, "returns.pr", &chain.bytes())
 }
 
 /// Writes the folder that the arguments ask for.
