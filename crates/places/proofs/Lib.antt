@@ -2,3 +2,4 @@ pub mod Holding
 pub mod Parts
 pub mod Records
 pub mod Refusals
+pub mod Variables
