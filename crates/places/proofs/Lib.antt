@@ -1,0 +1,5 @@
+pub mod Holding
+pub mod Parts
+pub mod Records
+pub mod Refusals
+pub mod Variables
