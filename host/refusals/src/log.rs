@@ -1,7 +1,17 @@
 //! What the prover said of an edited crate.
 
 /// Words of an error that says that the proof no longer has the form that the code asks for, not that a fact fails.
-const MISFIT: [&str; 2] = ["has no `", "is not in scope"];
+const MISFIT: [&str; 6] = [
+    "has no `",
+    "has no field `",
+    "is not a field of",
+    "is not in scope",
+    " components",
+    "expected type `tie.Need-",
+];
+
+/// How errors of a loop's invariant and measure begin, whose variables are those of the code.
+const LOOP: [&str; 2] = [": error: `Inv-", ": error: `μ-"];
 
 /// Words of an error that only follows from another.
 const FOLLOWS: &str = "was not admitted";
@@ -22,7 +32,9 @@ pub fn objection(log: &str, function: Option<&str>) -> Option<String> {
     }
     let own: Vec<&str> =
         log.lines().filter(|line| is_error(line) && is_of(line, function)).collect();
-    if let Some(line) = own.iter().find(|line| MISFIT.iter().any(|words| line.contains(words))) {
+    if let Some(line) =
+        own.iter().find(|line| MISFIT.iter().chain(&LOOP).any(|words| line.contains(words)))
+    {
         return Some(format!("a misfit: {}", short(line)));
     }
     let fails = own.iter().any(|line| !line.contains(FOLLOWS));
