@@ -1,4 +1,5 @@
 // The walk down an activation's frames, from what stands over them.
+use flowfacts::reads_held;
 use flowfacts::returning;
 use flowfacts::through;
 use frames::Down;
@@ -10,7 +11,6 @@ use nodefacts::expression_type;
 use nodefacts::is_constant;
 use nodefacts::is_expression;
 use nodefacts::is_statement;
-use nodefacts::reads_held;
 use store::Control;
 use store::Ref;
 use store::Value;
@@ -28,6 +28,7 @@ ghost use Rattle.semantics.specs.Machine.{eval, exec};
 ghost use Rattle.semantics.specs.File.{programOf};
 ghost use Rattle.image.specs.Decode.{frameOf};
 ghost use Rattle.store.specs.Meaning.{valueIs, refIs, controlIs};
+ghost use Rattle.tables.specs.Tables.{Tabled};
 ghost use Rattle.nodefacts.specs.Part.{Part};
 ghost use Rattle.frames.specs.Travel.{suits, onward, ends};
 ghost use Rattle.frames.specs.Meaning.{downIs};
@@ -50,12 +51,13 @@ pub fn frames_fit(
     part: &[u8],
     n: usize,
     decls: &[usize; 64],
+    table: &[u64],
     m: &[u32],
     low: usize,
     k: usize,
     d: Down,
 ) -> bool
-    requires part { ⌜ Part (now file) f (now part) n × Decls (now part) n (now decls) ⌝ }
+    requires part { ⌜ Part (now file) f (now part) n × Decls (now part) n (now decls) × Tabled (now part) n (now table) ⌝ }
     requires room { ⌜ (16384 ≤ length (now m)) × (low + k ≤ 512) ⌝ }
     ensures { λ r. ⌜ r ≡ chain (suits (programOf (now (file .entry))) f) (onward (programOf (now (file .entry))) f) ends (downIs d) (entries 20 frameOf (now (m .entry)) (4480 + low * 20) k) ⌝ }
 {
@@ -63,7 +65,7 @@ pub fn frames_fit(
     let mut down = d;
     while 0 < i {
         i -= 1;
-        let next = frame_step(file, f, part, n, decls, m, low + i, down);
+        let next = frame_step(file, f, part, n, decls, table, m, low + i, down);
         if !next.ok {
             return false;
         }
@@ -90,10 +92,11 @@ fn begin_expression(
     part: &[u8],
     n: usize,
     decls: &[usize; 64],
+    table: &[u64],
     x: u32,
     set: VarSet,
 ) -> Next
-    requires { ⌜ Part (now file) f (now part) n × Decls (now part) n (now decls) ⌝ }
+    requires { ⌜ Part (now file) f (now part) n × Decls (now part) n (now decls) × Tabled (now part) n (now table) ⌝ }
     ensures { λ r. ⌜ Begins (programOf (now (file .entry))) f (has (set .0)) (eval x) r ⌝ }
 {
     if !is_expression(file, f, part, n, x) {
@@ -105,22 +108,30 @@ fn begin_expression(
     let kind = expression_type(file, f, part, n, decls, x);
     let down = giving(set, false, kind);
     Next {
-        ok: reads_held(file, f, part, n, x, set),
+        ok: reads_held(file, f, part, n, table, x, set),
         down,
     }
 }
 
 // A statement to execute, over the frames.
-fn begin_statement(file: &[u8], f: usize, part: &[u8], n: usize, r: Ref, set: VarSet) -> Next
-    requires { ⌜ Part (now file) f (now part) n ⌝ }
+fn begin_statement(
+    file: &[u8],
+    f: usize,
+    part: &[u8],
+    n: usize,
+    table: &[u64],
+    r: Ref,
+    set: VarSet,
+) -> Next
+    requires { ⌜ Part (now file) f (now part) n × Tabled (now part) n (now table) ⌝ }
     ensures { λ b. ⌜ Begins (programOf (now (file .entry))) f (has (set .0)) (exec (refIs r)) b ⌝ }
 {
     if !is_statement(file, f, part, n, r) {
         return refused(set);
     }
-    let p = through(file, f, part, n, r, set);
+    let p = through(file, f, part, n, table, r, set);
     let left = p.left;
-    let down = bare(left, returning(file, f, part, n, r));
+    let down = bare(left, returning(file, f, part, n, table, r));
     Next { ok: p.ok, down }
 }
 
@@ -131,10 +142,11 @@ pub fn begin(
     part: &[u8],
     n: usize,
     decls: &[usize; 64],
+    table: &[u64],
     set: VarSet,
     c: Control,
 ) -> Next
-    requires { ⌜ Part (now file) f (now part) n × Decls (now part) n (now decls) ⌝ }
+    requires { ⌜ Part (now file) f (now part) n × Decls (now part) n (now decls) × Tabled (now part) n (now table) ⌝ }
     ensures { λ r. ⌜ Begins (programOf (now (file .entry))) f (has (set .0)) (controlIs c) r ⌝ }
 {
     match c {
@@ -142,7 +154,7 @@ pub fn begin(
             ok: true,
             down: giving(set, false, value_type(v)),
         },
-        Control::Eval(x) => begin_expression(file, f, part, n, decls, x, set),
-        Control::Exec(r) => begin_statement(file, f, part, n, r, set),
+        Control::Eval(x) => begin_expression(file, f, part, n, decls, table, x, set),
+        Control::Exec(r) => begin_statement(file, f, part, n, table, r, set),
     }
 }

@@ -20,10 +20,10 @@ ghost use mathlib.Core.Bool.{_&&_};
 ghost use mathlib.Core.List.{List, _++_};
 ghost use Prim.Native.Nat.{ℕ, _+_, _*_, _≤_, _<_};
 ghost use lib.Dec.{eqb};
-ghost use lib.ListN.{length};
+ghost use lib.ListN.{length, getD};
 ghost use Rattle.varset.specs.Lowest.{pick};
 ghost use Rattle.varset.specs.Sets.{has, with};
-ghost use Rattle.records.specs.Fields.{functions, varsOf};
+ghost use Rattle.records.specs.Fields.{functions, varsOf, countOf};
 ghost use Rattle.records.specs.Parts.{Laid};
 ghost use Rattle.words.specs.Stacks.{entries};
 ghost use Rattle.words.specs.Segments.{total};
@@ -37,6 +37,7 @@ ghost use Rattle.semantics.specs.Test.{hold, holds, fit};
 ghost use Rattle.image.specs.Image.{image};
 ghost use Rattle.image.specs.Decode.{valueOf, frameOf, framesHeld};
 ghost use Rattle.image.specs.Narrow.{Narrow};
+ghost use Rattle.tables.specs.Tables.{Tabled};
 ghost use Rattle.nodefacts.specs.Part.{Part};
 ghost use Rattle.fitness.specs.Held.{Held};
 ghost use Rattle.fitness.specs.Activations.{framesFit, activationFit, callersFit};
@@ -119,14 +120,15 @@ fn over_frames(
     part: &[u8],
     n: usize,
     decls: &[usize; 64],
+    table: &[u64],
     set: VarSet,
     over: Over,
 ) -> Next
-    requires { ⌜ Part (now file) f (now part) n × Decls (now part) n (now decls) ⌝ }
+    requires { ⌜ Part (now file) f (now part) n × Decls (now part) n (now decls) × Tabled (now part) n (now table) ⌝ }
     ensures { λ r. ⌜ Hands (programOf (now (file .entry))) f (has (set .0)) (overIs over) r ⌝ }
 {
     match over {
-        Over::Running(c) => begin(file, f, part, n, decls, set, c),
+        Over::Running(c) => begin(file, f, part, n, decls, table, set, c),
         Over::Calling(t) => Next {
             ok: true,
             down: giving(set, false, t),
@@ -140,6 +142,7 @@ fn activation_in(
     f: usize,
     part: &[u8],
     n: usize,
+    table: &[u64],
     m: &[u32],
     a: usize,
     v: u32,
@@ -147,7 +150,7 @@ fn activation_in(
     k: usize,
     over: Over,
 ) -> bool
-    requires part { ⌜ Part (now file) f (now part) n ⌝ }
+    requires part { ⌜ Part (now file) f (now part) n × Tabled (now part) n (now table) ⌝ }
     requires room { ⌜ (16384 ≤ length (now m)) × (a < 32) × (v ≡ varsOf (now file) f) × (v ≤ 64) × (low + k ≤ 512) ⌝ }
     ensures { λ r. ⌜ r ≡ (holds (variablesIn (now (m .entry)) a v) (varTypes (programOf (now (file .entry)) .fun f)) && framesFit (programOf (now (file .entry))) f (held (variablesIn (now (m .entry)) a v)) (overIs over) (entries 20 frameOf (now (m .entry)) (4480 + low * 20) k)) ⌝ }
 {
@@ -157,25 +160,48 @@ fn activation_in(
         return false;
     }
     let set = vars.set;
-    let next = over_frames(file, f, part, n, &decls, set, over);
+    let next = over_frames(file, f, part, n, &decls, table, set, over);
     if !next.ok {
         return false;
     }
     let down = next.down;
-    frames_fit(file, f, part, n, &decls, m, low, k, down)
+    frames_fit(file, f, part, n, &decls, table, m, low, k, down)
+}
+
+// The same, with a table that is filled for it.
+fn activation_with(
+    file: &[u8],
+    f: usize,
+    part: &[u8],
+    n: usize,
+    table: &mut [u64],
+    m: &[u32],
+    a: usize,
+    v: u32,
+    low: usize,
+    k: usize,
+    over: Over,
+) -> bool
+    requires part { ⌜ Part (now file) f (now part) n × (5 * n ≤ length (now table)) ⌝ }
+    requires room { ⌜ (16384 ≤ length (now m)) × (a < 32) × (v ≡ varsOf (now file) f) × (v ≤ 64) × (low + k ≤ 512) ⌝ }
+    ensures { λ r. ⌜ r ≡ (holds (variablesIn (now (m .entry)) a v) (varTypes (programOf (now (file .entry)) .fun f)) && framesFit (programOf (now (file .entry))) f (held (variablesIn (now (m .entry)) a v)) (overIs over) (entries 20 frameOf (now (m .entry)) (4480 + low * 20) k)) ⌝ }
+{
+    tables::fill(file, f, part, n, table);
+    activation_in(file, f, part, n, table, m, a, v, low, k, over)
 }
 
 // Whether the activation over a activations is fit with its frames, the last of the first `high`.
 fn activation_fits(
     file: &[u8],
     starts: &[usize; 128],
+    table: &mut [u64],
     m: &[u32],
     a: usize,
     high: usize,
     over: Over,
 ) -> bool
     requires file { ⌜ (checkOf (now file) ≡ accepted) × Starts (now file) (now starts) ⌝ }
-    requires room { ⌜ (16384 ≤ length (now m)) × (a < 32) × (framesHeld (activationIn (now m) a) ≤ high) × (high ≤ 512) ⌝ }
+    requires room { ⌜ (16384 ≤ length (now m)) × (a < 32) × (framesHeld (activationIn (now m) a) ≤ high) × (high ≤ 512) × ((g : ℕ) → g < functions (now file) → 5 * countOf (now file) g ≤ length (now table)) ⌝ }
     ensures { λ r. ⌜ r ≡ activationFit (programOf (now (file .entry))) (overIs over) (activationIn (now (m .entry)) a) (framesTo (now (m .entry)) high) ⌝ }
 {
     let f = activation_word(m, a, 0) as usize;
@@ -191,7 +217,19 @@ fn activation_fits(
     let start = starts[f];
     let from = 12 * start;
     let end = 12 * (start + n);
-    activation_in(file, f, &file[from..end], n, m, a, v, high - k, k, over)
+    activation_with(
+        file,
+        f,
+        &file[from..end],
+        n,
+        table,
+        m,
+        a,
+        v,
+        high - k,
+        k,
+        over,
+    )
 }
 
 // Where the parts of a file start.
@@ -229,13 +267,14 @@ fn frames_held(m: &[u32], n: usize) -> usize
 fn callers_fit(
     file: &[u8],
     starts: &[usize; 128],
+    table: &mut [u64],
     m: &[u32],
     n: usize,
     high: usize,
     f: usize,
 ) -> bool
     requires file { ⌜ (checkOf (now file) ≡ accepted) × Starts (now file) (now starts) × (f < functions (now file)) ⌝ }
-    requires room { ⌜ (16384 ≤ length (now m)) × (n ≤ 32) × (high ≡ total framesHeld (activationsTo (now m) n)) × (high ≤ 512) ⌝ }
+    requires room { ⌜ (16384 ≤ length (now m)) × (n ≤ 32) × (high ≡ total framesHeld (activationsTo (now m) n)) × (high ≤ 512) × ((g : ℕ) → g < functions (now file) → 5 * countOf (now file) g ≤ length (now table)) ⌝ }
     ensures { λ r. ⌜ r ≡ callersFit (programOf (now (file .entry))) f (activationsTo (now (m .entry)) n) (framesTo (now (m .entry)) high) ⌝ }
 {
     let mut a = n;
@@ -244,13 +283,32 @@ fn callers_fit(
     while 0 < a {
         a -= 1;
         let t = result_of(file, g);
-        if !activation_fits(file, starts, m, a, top, Over::Calling(t)) {
+        if !activation_fits(file, starts, table, m, a, top, Over::Calling(t)) {
             return false;
         }
         g = activation_word(m, a, 0) as usize;
         top -= activation_word(m, a, 1) as usize;
     }
     g == 0
+}
+
+// Whether the running state that the memory holds is fit for the program of the file, with a table for its parts.
+fn running_fits(file: &[u8], table: &mut [u64], m: &[u32]) -> bool
+    requires file { ⌜ (checkOf (now file) ≡ accepted) × (16384 ≤ length (now m)) × Held (now m) × (getD (now m) 0 0 ≡ 2) ⌝ }
+    requires table { ⌜ ((g : ℕ) → g < functions (now file) → 5 * countOf (now file) g ≤ length (now table)) ⌝ }
+    ensures { λ r. ⌜ ((s : State) (R : List ℕ) → now (m .entry) ≡ image s ++ R → Within s → Narrow s → r ≡ fit (programOf (now (file .entry))) s) ⌝ }
+{
+    let n = m[2] as usize;
+    let high = frames_held(m, n);
+    let starts = starts_of(file);
+    let a = n - 1;
+    let c = control_of(m[3], m[4]);
+    if !activation_fits(file, &starts, table, m, a, high, Over::Running(c)) {
+        return false;
+    }
+    let f = activation_word(m, a, 0) as usize;
+    let k = activation_word(m, a, 1) as usize;
+    callers_fit(file, &starts, table, m, a, high - k, f)
 }
 
 // Whether the state that the memory holds is fit for the program of the file.
@@ -261,15 +319,15 @@ pub fn fits(file: &[u8], m: &[u32]) -> bool
     if m[0] != 2 {
         return true;
     }
-    let n = m[2] as usize;
-    let high = frames_held(m, n);
-    let starts = starts_of(file);
-    let a = n - 1;
-    let c = control_of(m[3], m[4]);
-    if !activation_fits(file, &starts, m, a, high, Over::Running(c)) {
-        return false;
+    let records = file.len() / 12;
+    if records <= 256 {
+        let mut table = [0u64; 1280];
+        return running_fits(file, &mut table, m);
     }
-    let f = activation_word(m, a, 0) as usize;
-    let k = activation_word(m, a, 1) as usize;
-    callers_fit(file, &starts, m, a, high - k, f)
+    if records <= 1024 {
+        let mut table = [0u64; 5120];
+        return running_fits(file, &mut table, m);
+    }
+    let mut table = [0u64; 21125];
+    running_fits(file, &mut table, m)
 }

@@ -28,6 +28,7 @@ ghost use Rattle.semantics.specs.File.{programOf};
 ghost use Rattle.semantics.specs.Test.{stmtIn};
 ghost use Rattle.image.specs.Decode.{refOf, operands};
 ghost use Rattle.store.specs.Meaning.{refIs, frameAt};
+ghost use Rattle.tables.specs.Tables.{Tabled};
 ghost use Rattle.nodefacts.specs.Part.{Part};
 ghost use Rattle.operands.specs.Slots.{slotsIn};
 ghost use Rattle.frames.specs.Travel.{travel};
@@ -85,11 +86,12 @@ fn operator_step(
     part: &[u8],
     n: usize,
     decls: &[usize; 64],
+    table: &[u64],
     m: &[u32],
     i: usize,
     d: Down,
 ) -> Next
-    requires part { ⌜ Part (now file) f (now part) n × Decls (now part) n (now decls) ⌝ }
+    requires part { ⌜ Part (now file) f (now part) n × Decls (now part) n (now decls) × Tabled (now part) n (now table) ⌝ }
     requires room { ⌜ (16384 ≤ length (now m)) × (i < 512) ⌝ }
     ensures { λ r. ⌜ Steps (programOf (now (file .entry))) f d (operands (op (getD (now (m .entry)) (frameAt i + 1) 0)) (getD (now (m .entry)) (frameAt i + 2) 0) (getD (now (m .entry)) (frameAt i + 3) 0) (slotsIn (now (m .entry)) i)) r ⌝ }
 {
@@ -101,7 +103,7 @@ fn operator_step(
         return refused(d);
     }
     let set = d.set;
-    let ok = gathers(file, f, part, n, decls, m, i, 0, 2, d.kind, set);
+    let ok = gathers(file, f, part, n, decls, table, m, i, 0, 2, d.kind, set);
     let down = giving(set, d.come, operator_type(x as u8));
     Next { ok, down }
 }
@@ -113,11 +115,12 @@ fn call_step(
     part: &[u8],
     n: usize,
     decls: &[usize; 64],
+    table: &[u64],
     m: &[u32],
     i: usize,
     d: Down,
 ) -> Next
-    requires part { ⌜ Part (now file) f (now part) n × Decls (now part) n (now decls) ⌝ }
+    requires part { ⌜ Part (now file) f (now part) n × Decls (now part) n (now decls) × Tabled (now part) n (now table) ⌝ }
     requires room { ⌜ (16384 ≤ length (now m)) × (i < 512) ⌝ }
     ensures { λ r. ⌜ Steps (programOf (now (file .entry))) f d (operands (fn (getD (now (m .entry)) (frameAt i + 1) 0)) (getD (now (m .entry)) (frameAt i + 2) 0) (getD (now (m .entry)) (frameAt i + 3) 0) (slotsIn (now (m .entry)) i)) r ⌝ }
 {
@@ -136,6 +139,7 @@ fn call_step(
         part,
         n,
         decls,
+        table,
         m,
         i,
         mask_of(file, g),
@@ -154,10 +158,11 @@ fn and_step(
     part: &[u8],
     n: usize,
     decls: &[usize; 64],
+    table: &[u64],
     x: u32,
     d: Down,
 ) -> Next
-    requires { ⌜ Part (now file) f (now part) n × Decls (now part) n (now decls) ⌝ }
+    requires { ⌜ Part (now file) f (now part) n × Decls (now part) n (now decls) × Tabled (now part) n (now table) ⌝ }
     ensures { λ r. ⌜ Steps (programOf (now (file .entry))) f d (and x) r ⌝ }
 {
     if !d.some {
@@ -167,14 +172,14 @@ fn and_step(
         return refused(d);
     }
     let set = d.set;
-    let ok = node_suits(file, f, part, n, decls, 2, x, set);
+    let ok = node_suits(file, f, part, n, decls, table, 2, x, set);
     let down = giving(set, d.come, 2);
     Next { ok, down }
 }
 
 // A waiting statement, by its reference's word.
-fn wait_step(file: &[u8], f: usize, part: &[u8], n: usize, x: u32, d: Down) -> Next
-    requires { ⌜ Part (now file) f (now part) n ⌝ }
+fn wait_step(file: &[u8], f: usize, part: &[u8], n: usize, table: &[u64], x: u32, d: Down) -> Next
+    requires { ⌜ Part (now file) f (now part) n × Tabled (now part) n (now table) ⌝ }
     ensures { λ r. ⌜ Steps (programOf (now (file .entry))) f d (wait (refOf x)) r ⌝ }
 {
     if d.some {
@@ -185,9 +190,9 @@ fn wait_step(file: &[u8], f: usize, part: &[u8], n: usize, x: u32, d: Down) -> N
         return refused(d);
     }
     let set = d.set;
-    let p = through(file, f, part, n, r, set);
+    let p = through(file, f, part, n, table, r, set);
     let left = p.left;
-    let come = d.come | returning(file, f, part, n, r);
+    let come = d.come | returning(file, f, part, n, table, r);
     let down = bare(left, come);
     Next { ok: p.ok, down }
 }
@@ -218,8 +223,17 @@ fn store_step(
 }
 
 // The two branches of an if, by their references' words.
-fn branch_step(file: &[u8], f: usize, part: &[u8], n: usize, x: u32, y: u32, d: Down) -> Next
-    requires { ⌜ Part (now file) f (now part) n ⌝ }
+fn branch_step(
+    file: &[u8],
+    f: usize,
+    part: &[u8],
+    n: usize,
+    table: &[u64],
+    x: u32,
+    y: u32,
+    d: Down,
+) -> Next
+    requires { ⌜ Part (now file) f (now part) n × Tabled (now part) n (now table) ⌝ }
     ensures { λ r. ⌜ Steps (programOf (now (file .entry))) f d (branch (refOf x) (refOf y)) r ⌝ }
 {
     if !d.some {
@@ -236,23 +250,32 @@ fn branch_step(file: &[u8], f: usize, part: &[u8], n: usize, x: u32, y: u32, d: 
     if !is_statement(file, f, part, n, q) {
         return refused(d);
     }
-    branches(file, f, part, n, r, q, d)
+    branches(file, f, part, n, table, r, q, d)
 }
 
 // Two branches that are statements.
-fn branches(file: &[u8], f: usize, part: &[u8], n: usize, r: Ref, q: Ref, d: Down) -> Next
-    requires part { ⌜ Part (now file) f (now part) n ⌝ }
+fn branches(
+    file: &[u8],
+    f: usize,
+    part: &[u8],
+    n: usize,
+    table: &[u64],
+    r: Ref,
+    q: Ref,
+    d: Down,
+) -> Next
+    requires part { ⌜ Part (now file) f (now part) n × Tabled (now part) n (now table) ⌝ }
     requires statements { ⌜ (stmtIn (programOf (now file)) f (refIs r) ≡ true) × (stmtIn (programOf (now file)) f (refIs q) ≡ true) ⌝ }
     requires given { ⌜ (d .some ≡ true) × (d .kind ≡ 2) ⌝ }
     ensures { λ b. ⌜ Steps (programOf (now (file .entry))) f d (branch (refIs r) (refIs q)) b ⌝ }
 {
     let set = d.set;
-    let p = through(file, f, part, n, r, set);
-    let o = through(file, f, part, n, q, set);
+    let p = through(file, f, part, n, table, r, set);
+    let o = through(file, f, part, n, table, q, set);
     let left = p.left;
     let other = o.left;
-    let ends = returning(file, f, part, n, r);
-    let come = d.come | (ends & returning(file, f, part, n, q));
+    let ends = returning(file, f, part, n, table, r);
+    let come = d.come | (ends & returning(file, f, part, n, table, q));
     let down = bare(left.meet(other), come);
     Next {
         ok: p.ok & o.ok,
@@ -288,23 +311,24 @@ pub fn frame_step(
     part: &[u8],
     n: usize,
     decls: &[usize; 64],
+    table: &[u64],
     m: &[u32],
     i: usize,
     d: Down,
 ) -> Next
-    requires part { ⌜ Part (now file) f (now part) n × Decls (now part) n (now decls) ⌝ }
+    requires part { ⌜ Part (now file) f (now part) n × Decls (now part) n (now decls) × Tabled (now part) n (now table) ⌝ }
     requires room { ⌜ (16384 ≤ length (now m)) × (i < 512) ⌝ }
     ensures { λ r. ⌜ Steps (programOf (now (file .entry))) f d (frameIn (now (m .entry)) i) r ⌝ }
 {
     let kind = frame_word(m, i, 0);
     let x = frame_word(m, i, 1);
     match kind {
-        1 => operator_step(file, f, part, n, decls, m, i, d),
-        2 => call_step(file, f, part, n, decls, m, i, d),
-        3 => and_step(file, f, part, n, decls, x, d),
-        4 => wait_step(file, f, part, n, x, d),
+        1 => operator_step(file, f, part, n, decls, table, m, i, d),
+        2 => call_step(file, f, part, n, decls, table, m, i, d),
+        3 => and_step(file, f, part, n, decls, table, x, d),
+        4 => wait_step(file, f, part, n, table, x, d),
         5 => store_step(file, f, part, n, decls, x, d),
-        6 => branch_step(file, f, part, n, x, frame_word(m, i, 2), d),
+        6 => branch_step(file, f, part, n, table, x, frame_word(m, i, 2), d),
         7 => leave_step(file, f, d),
         8 => Next {
             ok: d.some & (d.kind == 2),

@@ -1,7 +1,5 @@
-// Facts of one node of an accepted file: its sort, its type, what it reads, and how values flow through it.
-use flow::first_missing;
+// Facts of one node of an accepted file: its sort and its type.
 use node_records::kind_at;
-use records::Found;
 use store::Ref;
 use varset::VarSet;
 ghost use mathlib.Core.Path.{_≡_};
@@ -9,13 +7,12 @@ ghost use mathlib.Core.Bool.{true, _&&_};
 ghost use Prim.Native.Nat.{_*_, _≤_, _<_};
 ghost use lib.Dec.{leb, ltb};
 ghost use lib.ListN.{length};
-ghost use Rattle.varset.specs.Sets.{has};
 ghost use Rattle.records.specs.Fields.{varsOf, kindAt};
 ghost use Rattle.scopes.specs.Counts.{Decls};
 ghost use Rattle.semantics.specs.Program.{varType, typeN};
 ghost use Rattle.semantics.specs.Fit.{isConst};
 ghost use Rattle.semantics.specs.File.{programOf};
-ghost use Rattle.semantics.specs.Test.{clear, exprIn, stmtIn, reads, ok};
+ghost use Rattle.semantics.specs.Test.{exprIn, stmtIn};
 ghost use Rattle.store.specs.Meaning.{refIs};
 ghost use Rattle.nodefacts.specs.Part.{Part};
 
@@ -23,16 +20,6 @@ ghost use Rattle.nodefacts.specs.Part.{Part};
 pub struct Passage {
     pub ok: bool,
     pub left: VarSet,
-}
-
-// Whether a search found nothing.
-pub fn is_clear(found: Found) -> bool
-    ensures { λ r. ⌜ r ≡ clear found ⌝ }
-{
-    match found {
-        Found::At(_, _) => false,
-        Found::Nothing => true,
-    }
 }
 
 // Whether node i is one of the part's, of a kind from low to high.
@@ -106,14 +93,6 @@ pub fn expression_type(
     ensures { λ r. ⌜ r ≡ typeN (programOf (now (file .entry))) f i ⌝ }
 {
     typing::type_of(file, f, part, n, decls, i as usize)
-}
-
-// Whether every variable that the expression at node i reads is in the set.
-pub fn reads_held(file: &[u8], f: usize, part: &[u8], n: usize, i: u32, set: VarSet) -> bool
-    requires { ⌜ Part (now file) f (now part) n × (exprIn (programOf (now file)) f i ≡ true) ⌝ }
-    ensures { λ r. ⌜ r ≡ reads (programOf (now (file .entry))) f i (has (set .0)) ⌝ }
-{
-    is_clear(first_missing(part, n, i as usize, set))
 }
 
 // Whether a reference names a statement of function f.

@@ -1,8 +1,8 @@
 // The operands that a frame gathers: values and nodes in its slots, held to the types wanted.
+use flowfacts::reads_held;
 use frame_words::frame_word;
 use nodefacts::expression_type;
 use nodefacts::is_expression;
-use nodefacts::reads_held;
 use varset::VarSet;
 ghost use mathlib.Core.Path.{_≡_};
 ghost use Prim.Native.Nat.{ℕ, _+_, _*_, _-_, _≤_, _<_};
@@ -13,6 +13,7 @@ ghost use Rattle.semantics.specs.Values.{typeV};
 ghost use Rattle.semantics.specs.File.{programOf};
 ghost use Rattle.image.specs.Decode.{valueOf, valuesOf, nodesOf};
 ghost use Rattle.store.specs.Meaning.{frameAt};
+ghost use Rattle.tables.specs.Tables.{Tabled};
 ghost use Rattle.nodefacts.specs.Part.{Part};
 ghost use Rattle.operands.specs.Operands.{wantOf, valuesSuit, nodeSuits, nodesSuit, gathered};
 ghost use Rattle.operands.specs.Slots.{slotsIn};
@@ -58,11 +59,12 @@ pub fn node_suits(
     part: &[u8],
     n: usize,
     decls: &[usize; 64],
+    table: &[u64],
     want: u8,
     x: u32,
     set: VarSet,
 ) -> bool
-    requires { ⌜ Part (now file) f (now part) n × Decls (now part) n (now decls) ⌝ }
+    requires { ⌜ Part (now file) f (now part) n × Decls (now part) n (now decls) × Tabled (now part) n (now table) ⌝ }
     ensures { λ r. ⌜ r ≡ nodeSuits (programOf (now (file .entry))) f (has (set .0)) want x ⌝ }
 {
     if !is_expression(file, f, part, n, x) {
@@ -71,7 +73,7 @@ pub fn node_suits(
     if want != expression_type(file, f, part, n, decls, x) {
         return false;
     }
-    reads_held(file, f, part, n, x, set)
+    reads_held(file, f, part, n, table, x, set)
 }
 
 // Whether the slots from y on, up to an end, hold nodes of the types wanted after y values and one more.
@@ -81,6 +83,7 @@ fn nodes_suit(
     part: &[u8],
     n: usize,
     decls: &[usize; 64],
+    table: &[u64],
     m: &[u32],
     i: usize,
     mask: u8,
@@ -88,7 +91,7 @@ fn nodes_suit(
     end: usize,
     set: VarSet,
 ) -> bool
-    requires part { ⌜ Part (now file) f (now part) n × Decls (now part) n (now decls) ⌝ }
+    requires part { ⌜ Part (now file) f (now part) n × Decls (now part) n (now decls) × Tabled (now part) n (now table) ⌝ }
     requires room { ⌜ (16384 ≤ length (now m)) × (i < 512) × (y ≤ end) × (end < 8) ⌝ }
     ensures { λ r. ⌜ r ≡ nodesSuit (programOf (now (file .entry))) f (has (set .0)) (wantOf mask) (y + 1) (nodesOf (end - y) (drop (2 * y) (slotsIn (now (m .entry)) i))) ⌝ }
 {
@@ -101,6 +104,7 @@ fn nodes_suit(
             part,
             n,
             decls,
+            table,
             want,
             frame_word(m, i, 4 + j * 2),
             set,
@@ -119,6 +123,7 @@ pub fn gathers(
     part: &[u8],
     n: usize,
     decls: &[usize; 64],
+    table: &[u64],
     m: &[u32],
     i: usize,
     mask: u8,
@@ -126,7 +131,7 @@ pub fn gathers(
     kind: u8,
     set: VarSet,
 ) -> bool
-    requires part { ⌜ Part (now file) f (now part) n × Decls (now part) n (now decls) ⌝ }
+    requires part { ⌜ Part (now file) f (now part) n × Decls (now part) n (now decls) × Tabled (now part) n (now table) ⌝ }
     requires room { ⌜ (16384 ≤ length (now m)) × (i < 512) × (count ≤ 8) ⌝ }
     ensures { λ r. ⌜ r ≡ gathered (programOf (now (file .entry))) f (has (set .0)) (wantOf mask) count kind (valuesOf (getD (now (m .entry)) (frameAt i + 2) 0) (slotsIn (now (m .entry)) i)) (nodesOf (getD (now (m .entry)) (frameAt i + 3) 0) (drop (2 * getD (now (m .entry)) (frameAt i + 2) 0) (slotsIn (now (m .entry)) i))) ⌝ }
 {
@@ -149,5 +154,5 @@ pub fn gathers(
     if wanted(mask, low) != kind {
         return false;
     }
-    nodes_suit(file, f, part, n, decls, m, i, mask, low, end, set)
+    nodes_suit(file, f, part, n, decls, table, m, i, mask, low, end, set)
 }

@@ -31,7 +31,7 @@ RowIs r table k =
     ((r .fails ≡ failsIn (wordOf table k 0)) × (r .returned ≡ returnsIn (wordOf table k 0)))
     × ((r .needs .0 ≡ wordOf table k 1) × (r .adds .0 ≡ wordOf table k 2) × (r .drops .0 ≡ wordOf table k 3) × (r .declared .0 ≡ wordOf table k 4))
 
-row-sums : {s : Statement} {r : Row} (table : List ℕ) (k : ℕ) → RowIs r table k → Rowed s table k → Sums s r
+pub row-sums : {s : Statement} {r : Row} (table : List ℕ) (k : ℕ) → RowIs r table k → Rowed s table k → Sums s r
 row-sums table k e h = rw (e .0 .0, e .0 .1, e .1 .0, e .1 .1, e .1 .2, e .1 .3) h
 
 -- a row of a statement without parts, as the code makes it

@@ -24,10 +24,10 @@ pub fn objection(log: &str, function: Option<&str>) -> Option<String> {
     match verdict(log, function) {
         None => return Some(format!("the prover does not speak of {function}")),
         Some(said) if said == "proved" => return Some(format!("{function} is proved")),
-        Some(said) if said.starts_with("not proved; it calls") => {
-            return Some(format!("{function} is only refused for what it calls"))
+        Some(said) if said.starts_with("no proof") => {
+            let fails = said.contains("does not close");
+            return (!fails).then(|| format!("no fact of {function} fails: {}", short(said)));
         }
-        Some(said) if said.starts_with("no proof") => return None,
         Some(_) => {}
     }
     let own: Vec<&str> =

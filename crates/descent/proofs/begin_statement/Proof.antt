@@ -15,10 +15,10 @@ returns : tie.Need-returns
 returns c = exec-not (c .refused .ensures) (sym (c .before .before .is-statement .ensures) ∙ not-true _ (c .before .if1 .taken))
 
 through-requires : tie.Need-through-requires
-through-requires c κs = (c .before .before .before .before .pre, sym (c .before .is-statement .ensures) ∙ not-false _ (c .if1 .left))
+through-requires c κs = (c .before .before .before .before .before .pre .0, c .before .before .before .before .before .pre .1, sym (c .before .is-statement .ensures) ∙ not-false _ (c .if1 .left))
 
 returning-requires : tie.Need-returning-requires
-returning-requires c κs = (c .before .before .before .before .before .before .pre, sym (c .before .before .before .is-statement .ensures) ∙ not-false _ (c .before .before .if1 .left))
+returning-requires c κs = (c .before .before .before .before .before .before .before .pre .0, c .before .before .before .before .before .before .before .pre .1, sym (c .before .before .before .is-statement .ensures) ∙ not-false _ (c .before .before .if1 .left))
 
 bare-requires : tie.Need-bare-requires
 bare-requires c κs = search needs

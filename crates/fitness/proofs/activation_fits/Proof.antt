@@ -27,57 +27,60 @@ activation-word-requires-3 : tie.Need-activation-word-requires-3
 activation-word-requires-3 c κs = search needs
 
 function-count-requires : tie.Need-function-count-requires
-function-count-requires c κs = omega (arith, laid (c .before .before .before .before .before .args .file .now) (c .before .before .before .before .before .pre .0 .0) .heads)
+function-count-requires c κs = omega (arith, laid (c .before .before .before .before .before .before .args .file .now) (c .before .before .before .before .before .before .pre .0 .0) .heads)
 
 returns : tie.Need-returns
 unfolding programOf
-returns c = let a = c .before .before .before .before .before .before .before .args in sym (activation-unknown (programOf (a .file .now)) (overIs (a .over)) (a .m .now) (a .a) (a .high) (c .before .before .before .before .activation-word .result) (c .before .before .before .activation-word2 .result) (c .before .before .activation-word3 .result) (c .before .before .before .before .activation-word .ensures) (c .before .before .before .activation-word2 .ensures) (c .before .before .activation-word3 .ensures) (le-ltb _ _ (rw (c .before .function-count .ensures .0) at (c .if1 .taken))))
+returns c = let a = c .before .before .before .before .before .before .before .before .args in sym (activation-unknown (programOf (a .file .now)) (overIs (a .over)) (a .m .now) (a .a) (a .high) (c .before .before .before .before .activation-word .result) (c .before .before .before .activation-word2 .result) (c .before .before .activation-word3 .result) (c .before .before .before .before .activation-word .ensures) (c .before .before .before .activation-word2 .ensures) (c .before .before .activation-word3 .ensures) (le-ltb _ _ (rw (c .before .function-count .ensures .0) at (c .if1 .taken))))
 
 vars-of-requires : tie.Need-vars-of-requires
-vars-of-requires c κs = record-in (c .before .before .before .before .before .before .before .args .file .now) (c .before .before .before .before .before .before .before .pre .0 .0) (c .before .before .before .before .activation-word .result) (rw (c .before .function-count .ensures .0) at (c .if1 .left))
+vars-of-requires c κs = record-in (c .before .before .before .before .before .before .before .before .args .file .now) (c .before .before .before .before .before .before .before .before .pre .0 .0) (c .before .before .before .before .activation-word .result) (rw (c .before .function-count .ensures .0) at (c .if1 .left))
 
 wide-requires : tie.Need-wide-requires
 wide-requires c κs = search needs
 
 returns-2 : tie.Need-returns-2
-returns-2 c = let a = c .before .before .before .before .before .before .before .before .before .before .args in sym (activation-wrong (programOf (a .file .now)) (overIs (a .over)) (a .m .now) (a .a) (a .high) (c .before .before .before .before .before .before .before .activation-word .result) (c .before .before .before .before .before .before .activation-word2 .result) (c .before .before .before .before .before .activation-word3 .result) (c .before .before .before .before .before .before .before .activation-word .ensures) (c .before .before .before .before .before .before .activation-word2 .ensures) (c .before .before .before .before .before .activation-word3 .ensures) (holds-count (a .file .now) (c .before .before .before .before .before .before .before .before .before .before .pre .0 .0) (c .before .before .before .before .before .before .before .activation-word .result) (rw (c .before .before .before .before .function-count .ensures .0) at (c .before .before .before .if1 .left)) (a .m .now) (a .a) (c .before .before .before .before .before .activation-word3 .result) (λ e. c .if2 .taken (e ∙ sym (c .before .wide .ensures .0 ∙ c .before .before .vars-of .ensures)))))
+returns-2 c = let a = c .before .before .before .before .before .before .before .before .before .before .before .args in sym (activation-wrong (programOf (a .file .now)) (overIs (a .over)) (a .m .now) (a .a) (a .high) (c .before .before .before .before .before .before .before .activation-word .result) (c .before .before .before .before .before .before .activation-word2 .result) (c .before .before .before .before .before .activation-word3 .result) (c .before .before .before .before .before .before .before .activation-word .ensures) (c .before .before .before .before .before .before .activation-word2 .ensures) (c .before .before .before .before .before .activation-word3 .ensures) (holds-count (a .file .now) (c .before .before .before .before .before .before .before .before .before .before .before .pre .0 .0) (c .before .before .before .before .before .before .before .activation-word .result) (rw (c .before .before .before .before .function-count .ensures .0) at (c .before .before .before .if1 .left)) (a .m .now) (a .a) (c .before .before .before .before .before .activation-word3 .result) (λ e. c .if2 .taken (e ∙ sym (c .before .wide .ensures .0 ∙ c .before .before .vars-of .ensures)))))
 
 count-of-requires : tie.Need-count-of-requires
-count-of-requires c κs = record-in (c .before .before .before .before .before .before .before .before .before .before .args .file .now) (c .before .before .before .before .before .before .before .before .before .before .pre .0 .0) (c .before .before .before .before .before .before .before .activation-word .result) (rw (c .before .before .before .before .function-count .ensures .0) at (c .before .before .before .if1 .left))
+count-of-requires c κs = record-in (c .before .before .before .before .before .before .before .before .before .before .before .args .file .now) (c .before .before .before .before .before .before .before .before .before .before .before .pre .0 .0) (c .before .before .before .before .before .before .before .activation-word .result) (rw (c .before .before .before .before .function-count .ensures .0) at (c .before .before .before .if1 .left))
 
 mul-start : tie.Need-mul-start
-mul-start c = omega (arith, laid (c .before .before .before .before .before .before .before .before .before .before .before .args .file .now) (c .before .before .before .before .before .before .before .before .before .before .before .pre .0 .0) .few, c .before .before .before .before .before .function-count .ensures .0, c .before .before .before .before .if1 .left)
+mul-start c = omega (arith, laid (c .before .before .before .before .before .before .before .before .before .before .before .before .args .file .now) (c .before .before .before .before .before .before .before .before .before .before .before .before .pre .0 .0) .few, c .before .before .before .before .before .function-count .ensures .0, c .before .before .before .before .if1 .left)
 
 element-copy-out-start : tie.Need-element-copy-out-start
-element-copy-out-start c = omega (arith, laid (c .before .before .before .before .before .before .before .before .before .before .before .args .file .now) (c .before .before .before .before .before .before .before .before .before .before .before .pre .0 .0) .few, c .before .before .before .before .before .function-count .ensures .0, c .before .before .before .before .if1 .left)
+element-copy-out-start c = omega (arith, laid (c .before .before .before .before .before .before .before .before .before .before .before .before .args .file .now) (c .before .before .before .before .before .before .before .before .before .before .before .before .pre .0 .0) .few, c .before .before .before .before .before .function-count .ensures .0, c .before .before .before .before .if1 .left)
 
 mul-from : tie.Need-mul-from
-mul-from c = omega (arith, part-fits (c .before .before .before .before .before .before .before .before .before .before .before .before .args .file .now) (c .before .before .before .before .before .before .before .before .before .activation-word .result) (c .before .before .before .before .before .before .before .before .before .before .before .before .pre .0 .1 (c .before .before .before .before .before .before .before .before .before .activation-word .result) (rw (c .before .before .before .before .before .before .function-count .ensures .0) at (c .before .before .before .before .before .if1 .left))) (c .before .count-of .ensures .0) (laid (c .before .before .before .before .before .before .before .before .before .before .before .before .args .file .now) (c .before .before .before .before .before .before .before .before .before .before .before .before .pre .0 .0)) (rw (c .before .before .before .before .before .before .function-count .ensures .0) at (c .before .before .before .before .before .if1 .left)))
+mul-from c = omega (arith, part-fits (c .before .before .before .before .before .before .before .before .before .before .before .before .before .args .file .now) (c .before .before .before .before .before .before .before .before .before .activation-word .result) (c .before .before .before .before .before .before .before .before .before .before .before .before .before .pre .0 .1 (c .before .before .before .before .before .before .before .before .before .activation-word .result) (rw (c .before .before .before .before .before .before .function-count .ensures .0) at (c .before .before .before .before .before .if1 .left))) (c .before .count-of .ensures .0) (laid (c .before .before .before .before .before .before .before .before .before .before .before .before .before .args .file .now) (c .before .before .before .before .before .before .before .before .before .before .before .before .before .pre .0 .0)) (rw (c .before .before .before .before .before .before .function-count .ensures .0) at (c .before .before .before .before .before .if1 .left)))
 
 add-end : tie.Need-add-end
-add-end c = omega (arith, part-fits (c .before .before .before .before .before .before .before .before .before .before .before .before .args .file .now) (c .before .before .before .before .before .before .before .before .before .activation-word .result) (c .before .before .before .before .before .before .before .before .before .before .before .before .pre .0 .1 (c .before .before .before .before .before .before .before .before .before .activation-word .result) (rw (c .before .before .before .before .before .before .function-count .ensures .0) at (c .before .before .before .before .before .if1 .left))) (c .before .count-of .ensures .0) (laid (c .before .before .before .before .before .before .before .before .before .before .before .before .args .file .now) (c .before .before .before .before .before .before .before .before .before .before .before .before .pre .0 .0)) (rw (c .before .before .before .before .before .before .function-count .ensures .0) at (c .before .before .before .before .before .if1 .left)))
+add-end c = omega (arith, part-fits (c .before .before .before .before .before .before .before .before .before .before .before .before .before .args .file .now) (c .before .before .before .before .before .before .before .before .before .activation-word .result) (c .before .before .before .before .before .before .before .before .before .before .before .before .before .pre .0 .1 (c .before .before .before .before .before .before .before .before .before .activation-word .result) (rw (c .before .before .before .before .before .before .function-count .ensures .0) at (c .before .before .before .before .before .if1 .left))) (c .before .count-of .ensures .0) (laid (c .before .before .before .before .before .before .before .before .before .before .before .before .before .args .file .now) (c .before .before .before .before .before .before .before .before .before .before .before .before .before .pre .0 .0)) (rw (c .before .before .before .before .before .before .function-count .ensures .0) at (c .before .before .before .before .before .if1 .left)))
 
 mul-end : tie.Need-mul-end
-mul-end c = omega (arith, part-fits (c .before .before .before .before .before .before .before .before .before .before .before .before .args .file .now) (c .before .before .before .before .before .before .before .before .before .activation-word .result) (c .before .before .before .before .before .before .before .before .before .before .before .before .pre .0 .1 (c .before .before .before .before .before .before .before .before .before .activation-word .result) (rw (c .before .before .before .before .before .before .function-count .ensures .0) at (c .before .before .before .before .before .if1 .left))) (c .before .count-of .ensures .0) (laid (c .before .before .before .before .before .before .before .before .before .before .before .before .args .file .now) (c .before .before .before .before .before .before .before .before .before .before .before .before .pre .0 .0)) (rw (c .before .before .before .before .before .before .function-count .ensures .0) at (c .before .before .before .before .before .if1 .left)))
+mul-end c = omega (arith, part-fits (c .before .before .before .before .before .before .before .before .before .before .before .before .before .args .file .now) (c .before .before .before .before .before .before .before .before .before .activation-word .result) (c .before .before .before .before .before .before .before .before .before .before .before .before .before .pre .0 .1 (c .before .before .before .before .before .before .before .before .before .activation-word .result) (rw (c .before .before .before .before .before .before .function-count .ensures .0) at (c .before .before .before .before .before .if1 .left))) (c .before .count-of .ensures .0) (laid (c .before .before .before .before .before .before .before .before .before .before .before .before .before .args .file .now) (c .before .before .before .before .before .before .before .before .before .before .before .before .before .pre .0 .0)) (rw (c .before .before .before .before .before .before .function-count .ensures .0) at (c .before .before .before .before .before .if1 .left)))
 
-sub-activation-in : tie.Need-sub-activation-in
-sub-activation-in c = search needs
+sub-activation-with : tie.Need-sub-activation-with
+sub-activation-with c = search needs
 
-part-activation-in-start : tie.Need-part-activation-in-start
-part-activation-in-start c = search needs
+part-activation-with-start : tie.Need-part-activation-with-start
+part-activation-with-start c = search needs
 
-part-activation-in-end : tie.Need-part-activation-in-end
-part-activation-in-end c = part-fits (c .before .before .before .before .before .before .before .before .before .before .before .before .args .file .now) (c .before .before .before .before .before .before .before .before .before .activation-word .result) (c .before .before .before .before .before .before .before .before .before .before .before .before .pre .0 .1 (c .before .before .before .before .before .before .before .before .before .activation-word .result) (rw (c .before .before .before .before .before .before .function-count .ensures .0) at (c .before .before .before .before .before .if1 .left))) (c .before .count-of .ensures .0) (laid (c .before .before .before .before .before .before .before .before .before .before .before .before .args .file .now) (c .before .before .before .before .before .before .before .before .before .before .before .before .pre .0 .0)) (rw (c .before .before .before .before .before .before .function-count .ensures .0) at (c .before .before .before .before .before .if1 .left))
+part-activation-with-end : tie.Need-part-activation-with-end
+part-activation-with-end c = part-fits (c .before .before .before .before .before .before .before .before .before .before .before .before .before .args .file .now) (c .before .before .before .before .before .before .before .before .before .activation-word .result) (c .before .before .before .before .before .before .before .before .before .before .before .before .before .pre .0 .1 (c .before .before .before .before .before .before .before .before .before .activation-word .result) (rw (c .before .before .before .before .before .before .function-count .ensures .0) at (c .before .before .before .before .before .if1 .left))) (c .before .count-of .ensures .0) (laid (c .before .before .before .before .before .before .before .before .before .before .before .before .before .args .file .now) (c .before .before .before .before .before .before .before .before .before .before .before .before .before .pre .0 .0)) (rw (c .before .before .before .before .before .before .function-count .ensures .0) at (c .before .before .before .before .before .if1 .left))
 
-sub-activation-in-2 : tie.Need-sub-activation-in-2
-sub-activation-in-2 c = omega (arith, c .before .before .before .before .before .before .before .before .before .before .before .before .before .pre .1 .2, frames-of (c .before .before .before .before .before .before .before .before .before .before .before .before .before .args .m .now) (c .before .before .before .before .before .before .before .before .before .before .before .before .before .args .a) (c .before .before .before .before .before .before .before .before .before .activation-word2 .result) (c .before .before .before .before .before .before .before .before .before .activation-word2 .ensures))
+sub-activation-with-2 : tie.Need-sub-activation-with-2
+sub-activation-with-2 c = omega (arith, c .before .before .before .before .before .before .before .before .before .before .before .before .before .before .before .pre .1 .2, frames-of (c .before .before .before .before .before .before .before .before .before .before .before .before .before .before .before .args .m .now) (c .before .before .before .before .before .before .before .before .before .before .before .before .before .before .before .args .a) (c .before .before .before .before .before .before .before .before .before .before .activation-word2 .result) (c .before .before .before .before .before .before .before .before .before .before .activation-word2 .ensures))
 
-activation-in-requires : tie.Need-activation-in-requires
-activation-in-requires c κs = let a = c .before .before .before .before .before .before .before .before .before .before .before .before .before .args in let g = c .before .before .before .before .before .before .before .before .before .before .activation-word .result in (record { passed = c .before .before .before .before .before .before .before .before .before .before .before .before .before .pre .0 .0; known = rw (c .before .before .before .before .before .before .before .function-count .ensures .0) at (c .before .before .before .before .before .before .if1 .left); part = part-taken (a .file .now) g (c .before .before .before .before .before .before .before .before .before .before .before .before .before .pre .0 .1 g (rw (c .before .before .before .before .before .before .before .function-count .ensures .0) at (c .before .before .before .before .before .before .if1 .left))) (c .before .before .count-of .ensures .0); count = c .before .before .count-of .ensures .0 }, (c .before .before .before .before .before .before .before .before .before .before .before .before .before .pre .1 .0, c .before .before .before .before .before .before .before .before .before .before .before .before .before .pre .1 .1, c .before .before .before .if2 .left ∙ (c .before .before .before .before .wide .ensures .0 ∙ c .before .before .before .before .before .vars-of .ensures), omega (arith, c .before .before .before .if2 .left, c .before .before .before .before .wide .ensures .0, c .before .before .before .before .before .vars-of .ensures, laid (a .file .now) (c .before .before .before .before .before .before .before .before .before .before .before .before .before .pre .0 .0) .vars g (rw (c .before .before .before .before .before .before .before .function-count .ensures .0) at (c .before .before .before .before .before .before .if1 .left))), omega (arith, c .before .before .before .before .before .before .before .before .before .before .before .before .before .pre .1 .2, c .before .before .before .before .before .before .before .before .before .before .before .before .before .pre .1 .3, frames-of (a .m .now) (a .a) (c .before .before .before .before .before .before .before .before .before .activation-word2 .result) (c .before .before .before .before .before .before .before .before .before .activation-word2 .ensures))))
+activation-with-requires : tie.Need-activation-with-requires
+activation-with-requires c κs = let a = c .before .before .before .before .before .before .before .before .before .before .before .before .before .before .before .args in let g = c .before .before .before .before .before .before .before .before .before .before .before .activation-word .result in ((record { passed = c .before .before .before .before .before .before .before .before .before .before .before .before .before .before .before .pre .0 .0; known = rw (c .before .before .before .before .before .before .before .before .function-count .ensures .0) at (c .before .before .before .before .before .before .before .if1 .left); part = part-taken (a .file .now) g (c .before .before .before .before .before .before .before .before .before .before .before .before .before .before .before .pre .0 .1 g (rw (c .before .before .before .before .before .before .before .before .function-count .ensures .0) at (c .before .before .before .before .before .before .before .if1 .left))) (c .before .before .before .count-of .ensures .0); count = c .before .before .before .count-of .ensures .0 }, rw (c .before .before .before .count-of .ensures .0) (c .before .before .before .before .before .before .before .before .before .before .before .before .before .before .before .pre .1 .4 g (rw (c .before .before .before .before .before .before .before .before .function-count .ensures .0) at (c .before .before .before .before .before .before .before .if1 .left)))), (c .before .before .before .before .before .before .before .before .before .before .before .before .before .before .before .pre .1 .0, c .before .before .before .before .before .before .before .before .before .before .before .before .before .before .before .pre .1 .1, c .before .before .before .before .if2 .left ∙ (c .before .before .before .before .before .wide .ensures .0 ∙ c .before .before .before .before .before .before .vars-of .ensures), omega (arith, c .before .before .before .before .if2 .left, c .before .before .before .before .before .wide .ensures .0, c .before .before .before .before .before .before .vars-of .ensures, laid (a .file .now) (c .before .before .before .before .before .before .before .before .before .before .before .before .before .before .before .pre .0 .0) .vars g (rw (c .before .before .before .before .before .before .before .before .function-count .ensures .0) at (c .before .before .before .before .before .before .before .if1 .left))), omega (arith, c .before .before .before .before .before .before .before .before .before .before .before .before .before .before .before .pre .1 .2, c .before .before .before .before .before .before .before .before .before .before .before .before .before .before .before .pre .1 .3, frames-of (a .m .now) (a .a) (c .before .before .before .before .before .before .before .before .before .before .activation-word2 .result) (c .before .before .before .before .before .before .before .before .before .before .activation-word2 .ensures))))
+
+same-length : tie.Need-same-length
+same-length c = search needs
 
 returns-3 : tie.Need-returns-3
 unfolding programOf
-returns-3 c = let a = c .before .before .before .before .before .before .before .before .before .before .before .before .before .before .args in c .activation-in .ensures ∙ sym (activation-whole (programOf (a .file .now)) (overIs (a .over)) (a .m .now) (a .a) (a .high) (c .before .before .before .before .before .before .before .before .before .before .before .activation-word .result) (c .before .before .before .before .before .before .before .before .before .before .activation-word2 .result) (c .before .before .before .before .before .before .before .before .before .activation-word3 .result) (c .before .before .before .before .before .before .before .before .before .before .before .activation-word .ensures) (c .before .before .before .before .before .before .before .before .before .before .activation-word2 .ensures) (c .before .before .before .before .before .before .before .before .before .activation-word3 .ensures) (lt-ltb _ _ (rw (c .before .before .before .before .before .before .before .before .function-count .ensures .0) at (c .before .before .before .before .before .before .before .if1 .left))) (omega (arith, c .before .before .before .before .before .before .before .before .before .before .before .before .before .before .pre .1 .2, frames-of (a .m .now) (a .a) (c .before .before .before .before .before .before .before .before .before .before .activation-word2 .result) (c .before .before .before .before .before .before .before .before .before .before .activation-word2 .ensures))))
+returns-3 c = let a = c .before .before .before .before .before .before .before .before .before .before .before .before .before .before .before .before .before .before .args in c .before .before .activation-with .ensures ∙ sym (activation-whole (programOf (a .file .now)) (overIs (a .over)) (a .m .now) (a .a) (a .high) (c .before .before .before .before .before .before .before .before .before .before .before .before .before .before .activation-word .result) (c .before .before .before .before .before .before .before .before .before .before .before .before .before .activation-word2 .result) (c .before .before .before .before .before .before .before .before .before .before .before .before .activation-word3 .result) (c .before .before .before .before .before .before .before .before .before .before .before .before .before .before .activation-word .ensures) (c .before .before .before .before .before .before .before .before .before .before .before .before .before .activation-word2 .ensures) (c .before .before .before .before .before .before .before .before .before .before .before .before .activation-word3 .ensures) (lt-ltb _ _ (rw (c .before .before .before .before .before .before .before .before .before .before .before .function-count .ensures .0) at (c .before .before .before .before .before .before .before .before .before .before .if1 .left))) (omega (arith, c .before .before .before .before .before .before .before .before .before .before .before .before .before .before .before .before .before .before .pre .1 .2, frames-of (a .m .now) (a .a) (c .before .before .before .before .before .before .before .before .before .before .before .before .before .activation-word2 .result) (c .before .before .before .before .before .before .before .before .before .before .before .before .before .activation-word2 .ensures))))
 
 pub activation-fits-spec : {M : Type 1} → statement M
 activation-fits-spec =
@@ -99,9 +102,10 @@ activation-fits-spec =
     mul-from
     add-end
     mul-end
-    sub-activation-in
-    part-activation-in-start
-    part-activation-in-end
-    sub-activation-in-2
-    activation-in-requires
+    sub-activation-with
+    part-activation-with-start
+    part-activation-with-end
+    sub-activation-with-2
+    activation-with-requires
+    same-length
     returns-3)

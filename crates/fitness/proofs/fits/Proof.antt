@@ -1,81 +1,58 @@
-use mathlib.Core.Path.{sym, _∙_}
-use native.Mathlib.Omega.{arith}
-use lib.ListN.{getD}
-use borrow.Author.Tests.{not-true, not-false, ltb-true}
-use Rattle.semantics.specs.File.{programOf}
-use Rattle.image.specs.Decode.{activationsIn}
-use Rattle.store.specs.Meaning.{controlIs}
+use Rattle.fitness.proofs.Rests.{fit-rest}
 use Rattle.frames.proofs.Files.{laid}
-use Rattle.fitness.specs.Activations.{at}
-use Rattle.fitness.specs.Meaning.{overIs, framesTo}
-use Prim.Native.Nat.{_-_}
-use Rattle.fitness.proofs.Lists.{fit-known, total-last, held-last}
-use Rattle.fitness.proofs.Rests.{fit-rest, few, fewer, some, fits-less, fits-more}
+use Rattle.semantics.specs.File.{programOf}
+use native.Mathlib.Omega.{arith}
+use mathlib.Core.Path.{sym}
 use borrow.Author.Needs.{needs}
 use Rattle.fitness.proofs.fits.Statement.{statement}
 use Rattle.fitness.proofs.fits.Tie as tie
+use Rattle.fitness.proofs.fits.Reads as reads
+use Rattle.fitness.proofs.fits.Lts as lts
+use Rattle.fitness.proofs.running_fits.Reads as running-fits-reads
 
+-- src/lib.rt:319:8
 shared-slice-read-if1 : tie.Need-shared-slice-read-if1
 shared-slice-read-if1 c = search needs
 
+-- src/lib.rt:320:9
 returns : tie.Need-returns
 returns c = let a = c .before .before .before .before .args in λ s R e w n. sym (fit-rest (programOf (a .file .now)) (a .m .now) s R e w n (λ i. c .before .before .shared-slice-known2 .given i .fits) (c .if1 .taken))
 
-shared-slice-read-n : tie.Need-shared-slice-read-n
-shared-slice-read-n c = search needs
+-- src/lib.rt:325:35
+slice-aggregate-running-fits : tie.Need-slice-aggregate-running-fits
+slice-aggregate-running-fits c = search needs
 
-cast-n : tie.Need-cast-n
-cast-n c = omega (arith, few (c .before .before .before .before .before .args .m .now) (c .before .before .before .before .before .pre .2))
+-- src/lib.rt:325:9
+running-fits-requires : tie.Need-running-fits-requires
+running-fits-requires c κs = ((c .before .before .before .before .before .before .pre .0, c .before .before .before .before .before .before .pre .1, c .before .before .before .before .before .before .pre .2, c .before .before .if1 .left), λ g l. let z = (laid (c .before .before .before .before .before .before .args .file .now) (c .before .before .before .before .before .before .pre .0)) .fits g l in search (needs, z, c .before .if2 .taken))
 
-frames-held-requires : tie.Need-frames-held-requires
-unfolding activationsIn
-frames-held-requires c κs = let a = c .before .before .before .before .before .args in (c .before .before .before .before .before .pre .1, few (a .m .now) (c .before .before .before .before .before .pre .2), fewer (a .m .now) (c .before .before .before .before .before .pre .2))
-
-starts-of-requires : tie.Need-starts-of-requires
-starts-of-requires c κs = laid (c .before .before .before .before .before .before .args .file .now) (c .before .before .before .before .before .before .pre .0)
-
-sub-a : tie.Need-sub-a
-sub-a c = omega (arith, some (c .before .before .before .before .before .before .before .args .m .now) (c .before .before .before .before .before .before .before .pre .2) (c .before .before .before .if1 .left))
-
-shared-slice-read-control-of : tie.Need-shared-slice-read-control-of
-shared-slice-read-control-of c = search needs
-
-shared-slice-read-control-of-2 : tie.Need-shared-slice-read-control-of-2
-shared-slice-read-control-of-2 c = search needs
-
-control-of-requires : tie.Need-control-of-requires
-control-of-requires c κs = search needs
-
-activation-fits-requires : tie.Need-activation-fits-requires
-unfolding activationsIn
-activation-fits-requires c κs = let a = c .before .before .before .before .before .before .before .before .before .before .before .args in let o = some (a .m .now) (c .before .before .before .before .before .before .before .before .before .before .before .pre .2) (c .before .before .before .before .before .before .before .if1 .left) in ((c .before .before .before .before .before .before .before .before .before .before .before .pre .0, c .before .before .before .before .starts-of .ensures), (c .before .before .before .before .before .before .before .before .before .before .before .pre .1, omega (arith, few (a .m .now) (c .before .before .before .before .before .before .before .before .before .before .before .pre .2), o), omega (arith, c .before .before .before .before .before .frames-held .ensures, held-last (a .m .now) (getD (a .m .now) 2 0) o), omega (arith, c .before .before .before .before .before .frames-held .ensures, fewer (a .m .now) (c .before .before .before .before .before .before .before .before .before .before .before .pre .2))))
-
+-- src/lib.rt:325:9
 returns-2 : tie.Need-returns-2
-unfolding overIs
-returns-2 c = let a = c .before .before .before .before .before .before .before .before .before .before .before .before .before .args in λ s R e w n. sym (fits-less (programOf (a .file .now)) (a .m .now) s R e w n (λ i. c .before .before .before .before .before .before .before .before .before .before .before .shared-slice-known2 .given i .fits) (c .before .before .before .before .before .before .before .before .before .if1 .left) (controlIs (c .before .before .before .control-of .result)) (c .before .before .before .before .before .before .before .frames-held .result) (c .before .before .before .control-of .ensures) (c .before .before .before .before .before .before .before .frames-held .ensures) (some (a .m .now) (c .before .before .before .before .before .before .before .before .before .before .before .before .before .pre .2) (c .before .before .before .before .before .before .before .before .before .if1 .left)) (sym (c .before .activation-fits .ensures) ∙ not-true _ (c .if2 .taken)))
+returns-2 c = search needs
 
-activation-word-requires : tie.Need-activation-word-requires
-activation-word-requires c κs = let a = c .before .before .before .before .before .before .before .before .before .before .before .before .before .args in (c .before .before .before .before .before .before .before .before .before .before .before .before .before .pre .1, omega (arith, few (a .m .now) (c .before .before .before .before .before .before .before .before .before .before .before .before .before .pre .2), some (a .m .now) (c .before .before .before .before .before .before .before .before .before .before .before .before .before .pre .2) (c .before .before .before .before .before .before .before .before .before .if1 .left)), omega arith)
+-- src/lib.rt:329:35
+slice-aggregate-running-fits-2 : tie.Need-slice-aggregate-running-fits-2
+slice-aggregate-running-fits-2 c = search needs
 
-cast-f : tie.Need-cast-f
-cast-f c = search needs
+-- src/lib.rt:329:9
+running-fits-requires-2 : tie.Need-running-fits-requires-2
+running-fits-requires-2 c κs = ((c .before .before .before .before .before .before .before .pre .0, c .before .before .before .before .before .before .before .pre .1, c .before .before .before .before .before .before .before .pre .2, c .before .before .before .if1 .left), λ g l. let z = (laid (c .before .before .before .before .before .before .before .args .file .now) (c .before .before .before .before .before .before .before .pre .0)) .fits g l in search (needs, z, c .before .if3 .taken))
 
-activation-word-requires-2 : tie.Need-activation-word-requires-2
-activation-word-requires-2 c κs = let a = c .before .before .before .before .before .before .before .before .before .before .before .before .before .before .args in (c .before .before .before .before .before .before .before .before .before .before .before .before .before .before .pre .1, omega (arith, few (a .m .now) (c .before .before .before .before .before .before .before .before .before .before .before .before .before .before .pre .2), some (a .m .now) (c .before .before .before .before .before .before .before .before .before .before .before .before .before .before .pre .2) (c .before .before .before .before .before .before .before .before .before .before .if1 .left)), omega arith)
-
-cast-k : tie.Need-cast-k
-cast-k c = search needs
-
-sub-callers-fit : tie.Need-sub-callers-fit
-sub-callers-fit c = let a = c .before .before .before .before .before .before .before .before .before .before .before .before .before .before .before .before .args in omega (arith, c .before .before .before .before .before .before .before .before .before .before .frames-held .ensures, total-last (a .m .now) (getD (a .m .now) 2 0) (c .before .activation-word2 .result) (some (a .m .now) (c .before .before .before .before .before .before .before .before .before .before .before .before .before .before .before .before .pre .2) (c .before .before .before .before .before .before .before .before .before .before .before .before .if1 .left)) (c .before .activation-word2 .ensures))
-
-callers-fit-requires : tie.Need-callers-fit-requires
-unfolding programOf overIs activationsIn
-callers-fit-requires c κs = let a = c .before .before .before .before .before .before .before .before .before .before .before .before .before .before .before .before .args in let o = some (a .m .now) (c .before .before .before .before .before .before .before .before .before .before .before .before .before .before .before .before .pre .2) (c .before .before .before .before .before .before .before .before .before .before .before .before .if1 .left) in let t = total-last (a .m .now) (getD (a .m .now) 2 0) (c .before .activation-word2 .result) o (c .before .activation-word2 .ensures) in ((c .before .before .before .before .before .before .before .before .before .before .before .before .before .before .before .before .pre .0, c .before .before .before .before .before .before .before .before .before .starts-of .ensures, ltb-true _ _ (fit-known (programOf (a .file .now)) (at (controlIs (c .before .before .before .before .before .before .control-of .result))) (a .m .now) (getD (a .m .now) 2 0 - 1) (framesTo (a .m .now) (c .before .before .before .before .before .before .before .before .before .before .frames-held .result)) (c .before .before .activation-word .result) (c .before .before .activation-word .ensures) (sym (c .before .before .before .before .activation-fits .ensures) ∙ not-false _ (c .before .before .before .if2 .left)))), (c .before .before .before .before .before .before .before .before .before .before .before .before .before .before .before .before .pre .1, omega (arith, few (a .m .now) (c .before .before .before .before .before .before .before .before .before .before .before .before .before .before .before .before .pre .2)), omega (arith, c .before .before .before .before .before .before .before .before .before .before .frames-held .ensures, t), omega (arith, c .before .before .before .before .before .before .before .before .before .before .frames-held .ensures, fewer (a .m .now) (c .before .before .before .before .before .before .before .before .before .before .before .before .before .before .before .before .pre .2))))
-
+-- src/lib.rt:329:9
 returns-3 : tie.Need-returns-3
-unfolding overIs
-returns-3 c = let a = c .before .before .before .before .before .before .before .before .before .before .before .before .before .before .before .before .before .args in λ s R e w n. let o = some (a .m .now) (c .before .before .before .before .before .before .before .before .before .before .before .before .before .before .before .before .before .pre .2) (c .before .before .before .before .before .before .before .before .before .before .before .before .before .if1 .left) in c .callers-fit .ensures ∙ sym (fits-more (programOf (a .file .now)) (a .m .now) s R e w n (λ i. c .before .before .before .before .before .before .before .before .before .before .before .before .before .before .before .shared-slice-known2 .given i .fits) (c .before .before .before .before .before .before .before .before .before .before .before .before .before .if1 .left) (controlIs (c .before .before .before .before .before .before .before .control-of .result)) (c .before .before .before .before .before .before .before .before .before .before .before .frames-held .result) (c .before .before .before .before .before .before .before .control-of .ensures) (c .before .before .before .before .before .before .before .before .before .before .before .frames-held .ensures) o (c .before .before .before .activation-word .result) (c .before .before .activation-word2 .result) (c .before .before .before .activation-word .ensures) (c .before .before .activation-word2 .ensures) (omega (arith, c .before .before .before .before .before .before .before .before .before .before .before .frames-held .ensures, total-last (a .m .now) (getD (a .m .now) 2 0) (c .before .before .activation-word2 .result) o (c .before .before .activation-word2 .ensures))) (sym (c .before .before .before .before .before .activation-fits .ensures) ∙ not-false _ (c .before .before .before .before .if2 .left)))
+returns-3 c = search needs
+
+-- src/lib.rt:332:24
+slice-aggregate-running-fits-3 : tie.Need-slice-aggregate-running-fits-3
+slice-aggregate-running-fits-3 c = search needs
+
+-- src/lib.rt:332:5
+running-fits-requires-3 : tie.Need-running-fits-requires-3
+running-fits-requires-3 c κs = ((c .before .before .before .before .before .before .before .pre .0, c .before .before .before .before .before .before .before .pre .1, c .before .before .before .before .before .before .before .pre .2, c .before .before .before .if1 .left), λ g l. let z = (laid (c .before .before .before .before .before .before .before .args .file .now) (c .before .before .before .before .before .before .before .pre .0)) .small g l in search (needs, z))
+
+-- src/lib.rt:315:1
+returns-4 : tie.Need-returns-4
+returns-4 c = search needs
 
 pub fits-spec : {M : Type 1} → statement M
 fits-spec =
@@ -83,20 +60,12 @@ fits-spec =
     (tie.spec
     shared-slice-read-if1
     returns
-    shared-slice-read-n
-    cast-n
-    frames-held-requires
-    starts-of-requires
-    sub-a
-    shared-slice-read-control-of
-    shared-slice-read-control-of-2
-    control-of-requires
-    activation-fits-requires
+    slice-aggregate-running-fits
+    running-fits-requires
     returns-2
-    activation-word-requires
-    cast-f
-    activation-word-requires-2
-    cast-k
-    sub-callers-fit
-    callers-fit-requires
-    returns-3)
+    slice-aggregate-running-fits-2
+    running-fits-requires-2
+    returns-3
+    slice-aggregate-running-fits-3
+    running-fits-requires-3
+    returns-4)

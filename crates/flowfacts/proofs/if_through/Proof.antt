@@ -1,31 +1,49 @@
-use mathlib.Core.Path.{refl, _∙_}
-use Rattle.flow.proofs.Walks.{inner}
-use lib.Dec.{lit<, lit≤}
+use Rattle.flowfacts.proofs.Passing.{held-is}
+use Rattle.tables.proofs.Looking.{row-room, condition-row}
 use Rattle.nodefacts.proofs.Trees.{loop-if}
+use Rattle.nodefacts.proofs.Parts.{inside, loop-above}
+use native.Mathlib.Omega.{arith}
+use mathlib.Core.Path.{refl, _∙_}
 use borrow.Author.Needs.{needs}
 use Rattle.flowfacts.proofs.if_through.Statement.{statement}
 use Rattle.flowfacts.proofs.if_through.Tie as tie
+use Rattle.flowfacts.proofs.if_through.Reads as reads
+use Rattle.flowfacts.proofs.if_through.Lts as lts
+use Rattle.flowfacts.proofs.is_within.Reads as is-within-reads
+use Rattle.flowfacts.proofs.seq_through.Reads as seq-through-reads
+use Rattle.node_records.proofs.prior.Reads as prior-reads
+use Rattle.tables.proofs.needs_at.Reads as needs-at-reads
+use Rattle.varset.proofs.VarSet.meet.Reads as meet-reads
 
+-- src/lib.rt:86:54
 sub-prior : tie.Need-sub-prior
-sub-prior c = inner 11 (c .before .pre .1 .0) (search needs) (c .before .pre .1 .1) (lit≤ tt) (lit< tt)
+sub-prior c = loop-above (c .before .before .before .pre .0) ((c .before .before .before .pre .2), (c .before .before .before .pre .3))
 
+-- src/lib.rt:86:42
 prior-requires : tie.Need-prior-requires
-prior-requires c κs = search needs
+prior-requires c κs = omega (arith, inside (c .before .before .before .pre .0), (c .before .before .before .pre .2))
 
-first-missing-requires : tie.Need-first-missing-requires
-first-missing-requires c κs = search needs
+-- src/lib.rt:86:26
+needs-at-requires : tie.Need-needs-at-requires
+needs-at-requires c κs = row-room (c .before .before .before .before .pre .0) (c .before .before .before .before .pre .1) (omega (arith, c .prior .ensures, (c .before .before .before .before .pre .2)))
 
-is-clear-requires : tie.Need-is-clear-requires
-is-clear-requires c κs = search needs
+-- src/lib.rt:86:9
+is-within-requires : tie.Need-is-within-requires
+is-within-requires c κs = search needs
 
+-- src/lib.rt:87:9
 seq-through-requires : tie.Need-seq-through-requires
 seq-through-requires c κs = search needs
 
+-- src/lib.rt:90:9
 meet-requires : tie.Need-meet-requires
 meet-requires c κs = search needs
 
+-- src/lib.rt:74:1
 returns : tie.Need-returns
-returns c = loop-if _ _ (c .before .before .before .before .before .before .before .pre .1 .1) (inner 11 (c .before .before .before .before .before .before .before .pre .1 .0) (search needs) (c .before .before .before .before .before .before .before .pre .1 .1) (lit≤ tt) (lit< tt)) (c .before .before .before .before .before .prior .ensures) (c .before .before .before .is-clear .ensures ∙ rw (c .before .before .before .before .first-missing .ensures)) (c .before .before .seq-through .ensures) refl (c .meet .ensures)
+returns c = let q = c .before .before .before .before .before .prior .ensures in
+    let n = rw (← c .before .before .before .before .needs-at .ensures) at (condition-row (c .before .before .before .before .before .before .before .before .before .pre .0) (c .before .before .before .before .before .before .before .before .before .pre .1) (c .before .before .before .before .before .before .before .before .before .pre .2) (c .before .before .before .before .before .before .before .before .before .pre .3) q) in
+    loop-if _ _ (c .before .before .before .before .before .before .before .before .before .pre .3) (loop-above (c .before .before .before .before .before .before .before .before .before .pre .0) ((c .before .before .before .before .before .before .before .before .before .pre .2), (c .before .before .before .before .before .before .before .before .before .pre .3))) q (held-is _ n (c .before .before .before .is-within .ensures)) (c .before .before .seq-through .ensures) refl (c .meet .ensures)
 
 pub if-through-spec : {M : Type 1} → statement M
 if-through-spec =
@@ -33,8 +51,8 @@ if-through-spec =
     (tie.spec
     sub-prior
     prior-requires
-    first-missing-requires
-    is-clear-requires
+    needs-at-requires
+    is-within-requires
     seq-through-requires
     meet-requires
     returns)

@@ -1,23 +1,31 @@
-use mathlib.Core.Path.{refl}
-use Rattle.flow.proofs.Walks.{inner}
-use lib.Dec.{lit<, lit≤}
+use Rattle.tables.proofs.Looking.{row-room, while-row, body-row, body-below}
 use Rattle.nodefacts.proofs.Trees.{loop-seq}
+use Rattle.nodefacts.proofs.Parts.{loop-above}
+use native.Mathlib.Omega.{arith}
+use mathlib.Core.Path.{refl}
 use borrow.Author.Needs.{needs}
 use Rattle.flowfacts.proofs.seq_through.Statement.{statement}
 use Rattle.flowfacts.proofs.seq_through.Tie as tie
+use Rattle.flowfacts.proofs.seq_through.Reads as reads
+use Rattle.flowfacts.proofs.seq_through.Lts as lts
+use Rattle.flowfacts.proofs.row_through.Reads as row-through-reads
 
-sub-node-through : tie.Need-sub-node-through
-sub-node-through c = inner 11 (c .before .pre .1 .0) (search needs) (c .before .pre .1 .1) (lit≤ tt) (lit< tt)
+-- src/lib.rt:61:35
+sub-row-through : tie.Need-sub-row-through
+sub-row-through c = loop-above (c .before .before .before .pre .0) ((c .before .before .before .pre .2), (c .before .before .before .pre .3))
 
-node-through-requires : tie.Need-node-through-requires
-node-through-requires c κs = search needs
+-- src/lib.rt:61:9
+row-through-requires : tie.Need-row-through-requires
+row-through-requires c κs = row-room (c .before .before .before .pre .0) (c .before .before .before .pre .1) (omega (arith, (c .before .before .before .pre .2)))
 
-node-through-requires-2 : tie.Need-node-through-requires-2
-node-through-requires-2 c κs = search needs
+-- src/lib.rt:64:9
+row-through-requires-2 : tie.Need-row-through-requires-2
+row-through-requires-2 c κs = row-room (c .before .before .before .before .before .pre .0) (c .before .before .before .before .before .pre .1) (c .before .before .before .before .before .pre .2)
 
+-- src/lib.rt:49:1
 returns : tie.Need-returns
-returns c = loop-seq _ _ (c .before .before .before .before .before .pre .1 .1) (inner 11 (c .before .before .before .before .before .pre .1 .0) (search needs) (c .before .before .before .before .before .pre .1 .1) (lit≤ tt) (lit< tt)) (c .before .before .before .node-through .ensures) (c .before .node-through2 .ensures) refl refl
+returns c = loop-seq _ _ (c .before .before .before .before .before .before .before .pre .3) (loop-above (c .before .before .before .before .before .before .before .pre .0) ((c .before .before .before .before .before .before .before .pre .2), (c .before .before .before .before .before .before .before .pre .3))) (c .before .before .before .row-through .ensures _ (body-row (c .before .before .before .before .before .before .before .pre .0) (c .before .before .before .before .before .before .before .pre .1) (c .before .before .before .before .before .before .before .pre .2) (c .before .before .before .before .before .before .before .pre .3))) (c .before .row-through2 .ensures _ (while-row (c .before .before .before .before .before .before .before .pre .0) (c .before .before .before .before .before .before .before .pre .1) (c .before .before .before .before .before .before .before .pre .2) (c .before .before .before .before .before .before .before .pre .3))) refl refl
 
 pub seq-through-spec : {M : Type 1} → statement M
 seq-through-spec =
-    tie.close (tie.spec sub-node-through node-through-requires node-through-requires-2 returns)
+    tie.close (tie.spec sub-row-through row-through-requires row-through-requires-2 returns)

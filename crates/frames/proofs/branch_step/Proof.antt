@@ -42,7 +42,7 @@ returns-4 : tie.Need-returns-4
 returns-4 c = rw (← c .before .before .before .before .before .ref-of2 .ensures) (branch-second (c .refused4 .ensures) (sym (c .before .before .is-statement2 .ensures) ∙ not-true _ (c .before .if4 .taken)))
 
 branches-requires : tie.Need-branches-requires
-branches-requires c κs = (c .before .before .before .before .before .before .before .before .before .before .before .before .pre, ((sym (c .before .before .before .is-statement .ensures) ∙ not-false _ (c .before .before .if3 .left), sym (c .before .is-statement2 .ensures) ∙ not-false _ (c .if4 .left)), (not-false _ (c .before .before .before .before .before .before .before .before .if1 .left), c .before .before .before .before .before .before .if2 .left)))
+branches-requires c κs = (c .before .before .before .before .before .before .before .before .before .before .before .before .before .pre, ((sym (c .before .before .before .is-statement .ensures) ∙ not-false _ (c .before .before .if3 .left), sym (c .before .is-statement2 .ensures) ∙ not-false _ (c .if4 .left)), (not-false _ (c .before .before .before .before .before .before .before .before .if1 .left), c .before .before .before .before .before .before .if2 .left)))
 
 returns-5 : tie.Need-returns-5
 returns-5 c = rw (← c .before .before .before .before .before .before .ref-of .ensures, ← c .before .before .before .before .before .ref-of2 .ensures) (c .branches .ensures)

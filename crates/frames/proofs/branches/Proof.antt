@@ -23,7 +23,7 @@ bare-requires : tie.Need-bare-requires
 bare-requires c κs = search needs
 
 returns : tie.Need-returns
-returns c = branch-law (c .before .before .before .before .before .before .before .before .before .before .before .before .before .before .pre .1 .1 .0) (c .before .before .before .before .before .before .before .before .before .before .before .before .before .before .pre .1 .1 .1) (c .before .before .before .before .before .before .before .before .before .before .before .before .before .before .pre .1 .0 .0) (c .before .before .before .before .before .before .before .before .before .before .before .before .before .before .pre .1 .0 .1) (rw (c .before .before .before .before .before .before .before .before .before .before .through .ensures .0, c .before .before .before .before .before .before .before .before .before .through2 .ensures .0)) (c .before .before .bare .ensures ∙ rw (c .before .before .before .meet .ensures, c .before .before .before .before .before .before .before .before .before .before .through .ensures .1, c .before .before .before .before .before .before .before .before .before .through2 .ensures .1, c .before .before .before .before .before .before .returning .ensures, c .before .before .before .before .before .returning2 .ensures))
+returns c = branch-law (c .before .before .before .before .before .before .before .before .before .before .before .before .before .before .before .pre .1 .1 .0) (c .before .before .before .before .before .before .before .before .before .before .before .before .before .before .before .pre .1 .1 .1) (c .before .before .before .before .before .before .before .before .before .before .before .before .before .before .before .pre .1 .0 .0) (c .before .before .before .before .before .before .before .before .before .before .before .before .before .before .before .pre .1 .0 .1) (rw (c .before .before .before .before .before .before .before .before .before .before .through .ensures .0, c .before .before .before .before .before .before .before .before .before .through2 .ensures .0)) (c .before .before .bare .ensures ∙ rw (c .before .before .before .meet .ensures, c .before .before .before .before .before .before .before .before .before .before .through .ensures .1, c .before .before .before .before .before .before .before .before .before .through2 .ensures .1, c .before .before .before .before .before .before .returning .ensures, c .before .before .before .before .before .returning2 .ensures))
 
 pub branches-spec : {M : Type 1} → statement M
 branches-spec =

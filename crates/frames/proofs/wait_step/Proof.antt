@@ -24,10 +24,10 @@ returns-2 : tie.Need-returns-2
 returns-2 c = rw (← c .before .before .before .ref-of .ensures) (wait-not (c .refused2 .ensures) (sym (c .before .before .is-statement .ensures) ∙ not-true _ (c .before .if2 .taken)))
 
 through-requires : tie.Need-through-requires
-through-requires c κs = (c .before .before .before .before .before .before .before .pre, sym (c .before .before .is-statement .ensures) ∙ not-false _ (c .before .if2 .left))
+through-requires c κs = (c .before .before .before .before .before .before .before .before .pre .0, c .before .before .before .before .before .before .before .before .pre .1, sym (c .before .before .is-statement .ensures) ∙ not-false _ (c .before .if2 .left))
 
 returning-requires : tie.Need-returning-requires
-returning-requires c κs = (c .before .before .before .before .before .before .before .before .before .pre, sym (c .before .before .before .before .is-statement .ensures) ∙ not-false _ (c .before .before .before .if2 .left))
+returning-requires c κs = (c .before .before .before .before .before .before .before .before .before .before .pre .0, c .before .before .before .before .before .before .before .before .before .before .pre .1, sym (c .before .before .before .before .is-statement .ensures) ∙ not-false _ (c .before .before .before .if2 .left))
 
 bare-requires : tie.Need-bare-requires
 bare-requires c κs = search needs

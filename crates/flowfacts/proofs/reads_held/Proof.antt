@@ -1,0 +1,29 @@
+use Rattle.flowfacts.proofs.Passing.{held-is}
+use Rattle.tables.proofs.Looking.{row-room, expression-row}
+use Rattle.nodefacts.proofs.Sorts.{expression-inside}
+use Rattle.semantics.specs.File.{programOf}
+use mathlib.Core.Path.{_∙_}
+use borrow.Author.Needs.{needs}
+use Rattle.flowfacts.proofs.reads_held.Statement.{statement}
+use Rattle.flowfacts.proofs.reads_held.Tie as tie
+use Rattle.flowfacts.proofs.reads_held.Reads as reads
+use Rattle.flowfacts.proofs.reads_held.Lts as lts
+use Rattle.flowfacts.proofs.is_within.Reads as is-within-reads
+use Rattle.tables.proofs.needs_at.Reads as needs-at-reads
+
+-- src/lib.rt:147:15
+needs-at-requires : tie.Need-needs-at-requires
+needs-at-requires c κs = row-room (c .before .before .before .pre .0) (c .before .before .before .pre .1) (expression-inside (c .before .before .before .pre .0) _ (c .before .before .before .pre .2))
+
+-- src/lib.rt:147:5
+is-within-requires : tie.Need-is-within-requires
+is-within-requires c κs = search needs
+
+-- src/lib.rt:135:1
+returns : tie.Need-returns
+unfolding programOf
+returns c = let n = rw (← c .before .needs-at .ensures) at (expression-row (c .before .before .before .before .before .pre .0) (c .before .before .before .before .before .pre .1) _ (c .before .before .before .before .before .pre .2)) in
+    held-is _ n (c .is-within .ensures) ∙ rw ((c .before .before .before .before .before .pre .0) .part)
+
+pub reads-held-spec : {M : Type 1} → statement M
+reads-held-spec = tie.close (tie.spec needs-at-requires is-within-requires returns)

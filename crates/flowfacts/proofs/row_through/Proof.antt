@@ -1,0 +1,36 @@
+use Rattle.flowfacts.proofs.Passing.{goes-by}
+use Rattle.tables.proofs.Looking.{sums-of}
+use mathlib.Core.Path.{refl, _∙_}
+use borrow.Author.Needs.{needs}
+use Rattle.flowfacts.proofs.row_through.Statement.{statement}
+use Rattle.flowfacts.proofs.row_through.Tie as tie
+use Rattle.flowfacts.proofs.row_through.Reads as reads
+use Rattle.flowfacts.proofs.row_through.Lts as lts
+use Rattle.flowfacts.proofs.is_within.Reads as is-within-reads
+use Rattle.tables.proofs.row_at.Reads as row-at-reads
+use Rattle.varset.proofs.VarSet.minus.Reads as minus-reads
+use Rattle.varset.proofs.VarSet.union.Reads as union-reads
+
+-- src/lib.rt:37:9
+row-at-requires : tie.Need-row-at-requires
+row-at-requires c κs = search needs
+
+-- src/lib.rt:41:9
+is-within-requires : tie.Need-is-within-requires
+is-within-requires c κs = search needs
+
+-- src/lib.rt:44:15
+minus-requires : tie.Need-minus-requires
+minus-requires c κs = search needs
+
+-- src/lib.rt:44:15
+union-requires : tie.Need-union-requires
+union-requires c κs = search needs
+
+-- src/lib.rt:33:1
+returns : tie.Need-returns
+returns c = λ s h. goes-by _ _ (sums-of _ _ (c .before .before .before .before .before .before .before .row-at .ensures) h) (c .before .before .before .is-within .ensures) refl (c .union .ensures ∙ rw (c .before .minus .ensures))
+
+pub row-through-spec : {M : Type 1} → statement M
+row-through-spec =
+    tie.close (tie.spec row-at-requires is-within-requires minus-requires union-requires returns)
