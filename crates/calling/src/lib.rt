@@ -3,7 +3,6 @@ use records::count_of;
 use records::vars_of;
 use records::wide;
 use store::Control;
-use store::Ref;
 use store::Value;
 use transitions::Head;
 use transitions::Stepped;
@@ -20,21 +19,18 @@ ghost use Rattle.semantics.specs.Machine as machine;
 ghost use Rattle.semantics.specs.File.{funOf};
 ghost use Rattle.image.specs.Image.{savedFrames};
 ghost use Rattle.image.specs.Core.{core};
-ghost use Rattle.store.specs.Meaning.{valueIs, refIs};
+ghost use Rattle.store.specs.Meaning.{valueIs};
+ghost use Rattle.image.specs.Decode.{refOf};
 ghost use Rattle.transitions.specs.Comes.{Tells, Bounds, Starts, Called, Cleared, Comes};
 
-// The body of the function whose part has its first byte at `start`.
-pub fn body_of(file: &[u8], start: usize, count: usize) -> Ref
+// The word of the body of the function whose part has its first byte at `start`.
+pub fn body_of(file: &[u8], start: usize, count: usize) -> u32
     requires { ⌜ (start + 12 * count ≤ length (now file)) × (1 ≤ count) × (count ≤ 4096) ⌝ }
-    ensures { λ r. ⌜ ((g : ℕ) → start ≡ 12 * startOf (now (file .entry)) g → count ≡ countOf (now (file .entry)) g → refIs r ≡ funOf (now (file .entry)) g .body) ⌝ }
+    ensures { λ r. ⌜ ((g : ℕ) → start ≡ 12 * startOf (now (file .entry)) g → count ≡ countOf (now (file .entry)) g → refOf r ≡ funOf (now (file .entry)) g .body) ⌝ }
 {
     let root = count - 1;
     let kind = file[start + (12 * root + 2)];
-    if kind == 6 {
-        Ref::Nop
-    } else {
-        Ref::Node(root as u32)
-    }
+    if kind == 6 { 0 } else { 1 + 3 * root as u32 }
 }
 
 // Enters function g without arguments.
@@ -117,12 +113,13 @@ pub fn leave(file: &[u8], starts: &[usize; 128], m: &mut [u32], h: Head, v: Valu
     requires caller { ⌜ Called (now file) h (now m) ⌝ }
     ensures { λ r. ⌜ ((f : ℕ) (η : List values.Value) (J : List Frame) (g : ℕ) (θ : List values.Value) (L : List Frame) (A : List Saved) (R : List ℕ) → now (m .entry) ≡ core f η J (saved g θ L ∷ A) ++ R → Tells (now (file .entry)) h f J (saved g θ L ∷ A) → Comes (now (file .entry)) r (now (m .entry)) (now (m .exit)) R (running (machine.val (valueIs v)) calm g θ L A)) ⌝ }
 {
+    let c = store::at_hand(v);
     let callers = h.callers - 1;
     let function = activations::caller_function(m, callers) as usize;
     let frames = activations::caller_frames(m, callers) as usize;
     activations::leave(m, h.under, callers, h.frames);
     Stepped::Went(
-        Control::Val(v),
+        c,
         Head {
             function,
             start: starts[function],

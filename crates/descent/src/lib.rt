@@ -13,21 +13,22 @@ use nodefacts::is_expression;
 use nodefacts::is_statement;
 use store::Control;
 use store::Ref;
-use store::Value;
 use varset::VarSet;
 ghost use mathlib.Core.Path.{_≡_};
 ghost use mathlib.Core.Bool.{false};
-ghost use Prim.Native.Nat.{_+_, _*_, _≤_};
+ghost use Prim.Native.Nat.{ℕ, _+_, _*_, _≤_};
 ghost use lib.ListN.{length};
 ghost use Rattle.varset.specs.Sets.{has};
 ghost use Rattle.words.specs.Stacks.{entries};
 ghost use Rattle.words.specs.Walks.{chain};
 ghost use Rattle.scopes.specs.Counts.{Decls};
+ghost use Rattle.semantics.specs.Values as values;
 ghost use Rattle.semantics.specs.Values.{typeV};
-ghost use Rattle.semantics.specs.Machine.{eval, exec};
+ghost use Rattle.semantics.specs.Program.{Program};
+ghost use Rattle.semantics.specs.Machine.{val, eval, exec};
 ghost use Rattle.semantics.specs.File.{programOf};
 ghost use Rattle.image.specs.Decode.{frameOf};
-ghost use Rattle.store.specs.Meaning.{valueIs, refIs, controlIs};
+ghost use Rattle.store.specs.Meaning.{refIs, controlIs};
 ghost use Rattle.tables.specs.Tables.{Tabled};
 ghost use Rattle.nodefacts.specs.Part.{Part};
 ghost use Rattle.frames.specs.Travel.{suits, onward, ends};
@@ -74,14 +75,13 @@ pub fn frames_fit(
     !down.some & down.come
 }
 
-// The type of a value.
-fn value_type(v: Value) -> u8
-    ensures { λ r. ⌜ r ≡ typeV (valueIs v) ⌝ }
+// A value of a type at hand, over the frames.
+fn begin_value(set: VarSet, kind: u8) -> Next
+    ensures { λ r. ⌜ ((P : Program) (f : ℕ) (v : values.Value) → typeV v ≡ kind → Begins P f (has (set .0)) (val v) r) ⌝ }
 {
-    match v {
-        Value::Nothing => 0,
-        Value::Int(_) => 1,
-        Value::Truth(_) => 2,
+    Next {
+        ok: true,
+        down: giving(set, false, kind),
     }
 }
 
@@ -150,11 +150,10 @@ pub fn begin(
     ensures { λ r. ⌜ Begins (programOf (now (file .entry))) f (has (set .0)) (controlIs c) r ⌝ }
 {
     match c {
-        Control::Val(v) => Next {
-            ok: true,
-            down: giving(set, false, value_type(v)),
-        },
+        Control::Nothing => begin_value(set, 0),
+        Control::Int(_) => begin_value(set, 1),
+        Control::Truth(_) => begin_value(set, 2),
         Control::Eval(x) => begin_expression(file, f, part, n, decls, table, x, set),
-        Control::Exec(r) => begin_statement(file, f, part, n, table, r, set),
+        Control::Exec(r) => begin_statement(file, f, part, n, table, store::ref_of(r), set),
     }
 }

@@ -2,7 +2,6 @@
 use node_records::b_at;
 use node_records::kind_at;
 use store::Control;
-use store::Value;
 use transitions::Head;
 use transitions::Stepped;
 ghost use mathlib.Core.Path.{_≡_};
@@ -29,9 +28,9 @@ pub fn reach(part: &[u8], i: u32) -> Control
     let at = i as usize;
     let kind = kind_at(part, at);
     match kind {
-        0 => Control::Val(Value::Int(b_at(part, at))),
-        1 => Control::Val(Value::Truth(b_at(part, at) == 1)),
-        15 => Control::Val(Value::Nothing),
+        0 => Control::Int(b_at(part, at)),
+        1 => Control::Truth(b_at(part, at) == 1),
+        15 => Control::Nothing,
         _ => Control::Eval(i),
     }
 }

@@ -7,8 +7,8 @@ use native.Mathlib.Omega.{arith}
 use lib.ListN.{length, getD}
 use Rattle.language.specs.Check.{accepted, checkOf}
 use Rattle.records.specs.Parts.{partOf}
-use Rattle.semantics.specs.Values.{Value, nothing, int, truth}
-use Rattle.semantics.specs.Program.{Program, Ref, node, ifOf, seqOf}
+use Rattle.semantics.specs.Values.{Value}
+use Rattle.semantics.specs.Program.{Program}
 use Rattle.semantics.specs.Machine as machine
 use Rattle.semantics.specs.Machine.{Frame, Saved, calm, State, running}
 use Rattle.semantics.specs.Next.{goes, next}
@@ -20,7 +20,6 @@ use Rattle.semantics.proofs.Progress.{Applies, progress}
 use Rattle.semantics.proofs.Files.{accepted-program}
 use Rattle.semantics.proofs.Tests.{limits-say}
 use Rattle.semantics.proofs.Safety.{stays-fit}
-use Rattle.image.specs.Layout.{refWord, controlWords}
 use Rattle.image.specs.Image.{image}
 use Rattle.image.specs.Core.{core}
 use Rattle.store.specs.declared.Control as code
@@ -31,8 +30,6 @@ use Rattle.transitions.specs.declared.Stepped.the-variants.{Went, Full, Returne
 use Rattle.transitions.specs.Comes.{Tells, Bounds, Starts, Cleared, Comes}
 use Rattle.stepping.specs.Done.{Stands, Done}
 use Rattle.stepping.proofs.Given.{limited}
-use Rattle.stepping.proofs.Standing.{executes}
-use Rattle.stepping.specs.Done.{Executes}
 use Rattle.machine.specs.declared.Outcome.{Outcome}
 use Rattle.machine.specs.declared.Outcome.the-variants as outcome
 use Rattle.machine.specs.Runs.{outcomeOf, Ends}
@@ -135,28 +132,6 @@ module _ (s : List ℕ) (bytes : (i : ℕ) → getD s i 0 < 256) (passed : check
       let e : next (programOf s) here ≡ goes (applies .rule) (machine.exception machine.abort) = sound (applies .step) ∙ ap (goes (applies .rule)) (z .0) in
       r .then outcome.Abort (k + 1) l (ends-step (programOf s) n k here (machine.exception machine.abort) (applies .rule) less e refl (ends-raised (programOf s) n (k + 1) machine.abort l R (i (z .1))))
 
--- its limits, and the word of its control
+-- its limits
 pub reached-bounds : (s : List ℕ) (n d : ℕ) (σ : State) (k : ℕ) (c : code.Control) (h : Head) (m R : List ℕ) → Reached s n d σ k c h m R → 16384 ≤ length m → Bounds h m
 reached-bounds s n d σ k c h m R r l = let q = limited (r .tells) (r .fit) in (l, q .0, q .1)
-
--- the word of a statement's reference is small
-first : {a b : ℕ} {l k : List ℕ} → a ∷ l ≡ b ∷ k → a ≡ b
-first e = ap (λ (l : List ℕ). getD l 0 0) e
-
-second : {a b c d : ℕ} → a ∷ b ∷ [] ≡ c ∷ d ∷ [] → b ≡ d
-second e = ap (λ (l : List ℕ). getD l 1 0) e
-
-ref-small : (t : List ℕ) (r : Ref) → Executes t r → refWord r < 4294967296
-unfolding refWord
-ref-small t (node i) x = omega (arith, x .0 .1)
-ref-small t Ref.nop x = omega arith
-ref-small t (ifOf i) x = omega (arith, x .0 .1)
-ref-small t (seqOf i) x = omega (arith, x .0 .1)
-
-pub stands-small : (s table : List ℕ) (c : machine.Control) (h : Head) (l : List ℕ) → Stands s table c h l → (i : ℕ) → controlWords c ≡ 5 ∷ i ∷ [] → i < 4294967296
-unfolding controlWords
-stands-small s table (machine.val nothing) h l st i e = absurd (let z : _≡_ {A = ℕ} 1 5 = first e in omega arith)
-stands-small s table (machine.val (int n)) h l st i e = absurd (let z : _≡_ {A = ℕ} 2 5 = first e in omega arith)
-stands-small s table (machine.val (truth b)) h l st i e = absurd (let z : _≡_ {A = ℕ} 3 5 = first e in omega arith)
-stands-small s table (machine.eval n) h l st i e = absurd (let z : _≡_ {A = ℕ} 4 5 = first e in omega arith)
-stands-small s table (machine.exec r) h l st i e = rw (← (second e)) (ref-small (partOf s (h .function)) r (executes s table (partOf s (h .function)) h l refl r st))

@@ -25,9 +25,9 @@ use Rattle.semantics.proofs.Safety.{stays-fit}
 use Rattle.image.specs.Image.{savedFrames, image}
 use Rattle.image.specs.Core.{core}
 use Rattle.image.proofs.Heads.{Resting, clear-rest}
-use Rattle.store.specs.declared.Ref as code
 use Rattle.store.specs.declared.Control.the-variants.{Exec}
-use Rattle.store.specs.Meaning.{refIs, controlIs}
+use Rattle.image.specs.Decode.{refOf}
+use Rattle.store.specs.Meaning.{controlIs}
 use Rattle.transitions.specs.Comes.{Tells, Starts, Cleared}
 use Rattle.transitions.proofs.Entries.{entered-none}
 use Rattle.stepping.specs.Done.{Stands}
@@ -66,7 +66,7 @@ module _ (s : List ℕ) (passed : checkOf s ≡ accepted) where
   unfolding programOf
   entry-fit bytes = stays-fit s bytes passed start-fit (call-main {α = calm}) (omega arith, omega arith)
 
-  module _ (b : code.Ref) (body : refIs b ≡ funOf s 0 .body) (c : ℕ) (vars : c ≡ varsOf s 0) where
+  module _ (b : ℕ) (body : refOf b ≡ funOf s 0 .body) (c : ℕ) (vars : c ≡ varsOf s 0) where
     entry-is : running (controlIs (Exec b)) calm 0 (replicate c nothing) [] [] ≡ entry
     unfolding controlIs
     entry-is = rw (body, vars, entered-none s 0 main-params)

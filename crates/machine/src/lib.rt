@@ -5,7 +5,6 @@ use records::function_count;
 use records::vars_of;
 use records::wide;
 use store::Control;
-use store::Value;
 use transitions::Head;
 use transitions::Stepped;
 ghost use mathlib.Core.Path.{_≡_};
@@ -21,10 +20,9 @@ ghost use Rattle.semantics.specs.Machine.{calm, Frame, Saved, State, running};
 ghost use Rattle.semantics.specs.Run.{runOf};
 ghost use Rattle.semantics.specs.Fit.{Fit};
 ghost use Rattle.semantics.specs.File.{programOf};
-ghost use Rattle.image.specs.Layout.{refWord, controlWords};
 ghost use Rattle.image.specs.Image.{image};
 ghost use Rattle.image.specs.Core.{core};
-ghost use Rattle.store.specs.Meaning.{refIs, controlIs};
+ghost use Rattle.store.specs.Meaning.{controlIs};
 ghost use Rattle.transitions.specs.Comes.{Tells, Bounds, Starts, Cleared};
 ghost use Rattle.stepping.specs.Done.{Stands};
 ghost use Rattle.machine.specs.Runs.{Held, Begins, Proceeds, Ends, Rests};
@@ -64,27 +62,17 @@ fn starts_of(file: &[u8]) -> [usize; 128]
 // Puts the head of a running state back.
 fn put_back(m: &mut [u32], c: Control, h: Head)
     requires { ⌜ Bounds h (now m) ⌝ }
-    requires small { ⌜ ((i : ℕ) → controlWords (controlIs c) ≡ 5 ∷ i ∷ [] → i < 4294967296) ⌝ }
     ensures { λ _. ⌜ ((s : List ℕ) (f : ℕ) (η : List values.Value) (K : List Frame) (A : List Saved) (R : List ℕ) → now (m .entry) ≡ core f η K A ++ R → Tells s h f K A → now (m .exit) ≡ image (running (controlIs c) calm f η K A) ++ R) ⌝ }
 {
     let a = h.callers;
     let callers = h.callers as u32;
     let frames = h.frames as u32;
     match c {
-        Control::Val(v) => match v {
-            Value::Nothing => heads::store_head(m, a, callers, frames, 1, 0),
-            Value::Int(word) => heads::store_head(m, a, callers, frames, 2, word),
-            Value::Truth(truth) => heads::store_head(
-                m,
-                a,
-                callers,
-                frames,
-                3,
-                store::bit_of(truth),
-            ),
-        },
+        Control::Nothing => heads::store_head(m, a, callers, frames, 1, 0),
+        Control::Int(word) => heads::store_head(m, a, callers, frames, 2, word),
+        Control::Truth(truth) => heads::store_head(m, a, callers, frames, 3, store::bit_of(truth)),
         Control::Eval(i) => heads::store_head(m, a, callers, frames, 4, i),
-        Control::Exec(r) => heads::store_head(m, a, callers, frames, 5, store::ref_word(r)),
+        Control::Exec(r) => heads::store_head(m, a, callers, frames, 5, r),
     }
 }
 
@@ -128,7 +116,6 @@ fn fail(m: &mut [u32], tag: u32, outcome: Outcome, steps: u64) -> Ran
 // The end of a run that stops at a running state.
 fn stop(m: &mut [u32], c: Control, h: Head, outcome: Outcome, steps: u64) -> Ran
     requires { ⌜ Bounds h (now m) ⌝ }
-    requires small { ⌜ ((i : ℕ) → controlWords (controlIs c) ≡ 5 ∷ i ∷ [] → i < 4294967296) ⌝ }
     ensures { λ r. ⌜ (r .outcome ≡ outcome) × (r .steps ≡ steps) × ((s : List ℕ) (f : ℕ) (η : List values.Value) (K : List Frame) (A : List Saved) (R : List ℕ) → now (m .entry) ≡ core f η K A ++ R → Tells s h f K A → now (m .exit) ≡ image (running (controlIs c) calm f η K A) ++ R) ⌝ }
 {
     put_back(m, c, h);

@@ -25,10 +25,11 @@ use Rattle.semantics.proofs.Levels.{by-look, by-form}
 use Rattle.semantics.specs.Next.{give, opens, runs, next}
 use Rattle.image.specs.Core.{core}
 use Rattle.store.specs.declared.Control as code
-use Rattle.store.specs.declared.Control.the-variants.{Val, Eval, Exec}
+use Rattle.store.specs.declared.Control.the-variants as control
 use Rattle.store.specs.declared.Value as code-value
-use Rattle.store.specs.declared.Ref as code-ref
-use Rattle.store.specs.Meaning.{valueIs, refIs, controlIs}
+use Rattle.store.specs.declared.Value.the-variants as value
+use Rattle.image.specs.Decode.{refOf}
+use Rattle.store.specs.Meaning.{valueIs, controlIs}
 use Rattle.transitions.specs.declared.Head.{Head}
 use Rattle.transitions.specs.declared.Stepped.{Stepped}
 use Rattle.transitions.specs.Comes.{Tells, Bounds, Starts}
@@ -155,31 +156,42 @@ waiting s table h l r st e = go (st .frames) (st .tells) (rw e at (st .fit))
 
 -- ---- by the code's control
 
+module _ (c : code.Control) (v : code-value.Value) where
+  pub nothing-hand : c ≡ control.Nothing → v ≡ value.Nothing → controlIs c ≡ val (valueIs v)
+  unfolding controlIs valueIs
+  nothing-hand e d = rw (e, d)
+
+  pub int-hand : (n : ℕ) → c ≡ control.Int n → v ≡ value.Int n → controlIs c ≡ val (valueIs v)
+  unfolding controlIs valueIs
+  int-hand n e d = rw (e, d)
+
+  pub truth-hand : (b : Bool) → c ≡ control.Truth b → v ≡ value.Truth b → controlIs c ≡ val (valueIs v)
+  unfolding controlIs valueIs
+  truth-hand b e d = rw (e, d)
+
 module _ (s table : List ℕ) (c : code.Control) (h : Head) (l : List ℕ) where
-  pub stands-val : (v : code-value.Value) → c ≡ Val v → Stands s table (controlIs c) h l → Stands s table (val (valueIs v)) h l
-  unfolding controlIs
+  pub stands-val : (v : code-value.Value) → controlIs c ≡ val (valueIs v) → Stands s table (controlIs c) h l → Stands s table (val (valueIs v)) h l
   stands-val v e st = rw e at st
 
-  pub stands-eval : (i : ℕ) → c ≡ Eval i → Stands s table (controlIs c) h l → Stands s table (eval i) h l
+  pub stands-eval : (i : ℕ) → c ≡ control.Eval i → Stands s table (controlIs c) h l → Stands s table (eval i) h l
   unfolding controlIs
   stands-eval i e st = rw e at st
 
-  pub stands-exec : (r : code-ref.Ref) → c ≡ Exec r → Stands s table (controlIs c) h l → Stands s table (exec (refIs r)) h l
+  pub stands-exec : (r : ℕ) → c ≡ control.Exec r → Stands s table (controlIs c) h l → Stands s table (exec (refOf r)) h l
   unfolding controlIs
   stands-exec r e st = rw e at st
 
 module _ (s : List ℕ) (r : Stepped) (h : Head) (l m R : List ℕ) (f : ℕ) (η : List Value) where
-  pub val-done : (K : List Frame) (A : List Saved) (c : code.Control) (v : code-value.Value) → c ≡ Val v → l ≡ core f η K A ++ R → Tells s h f K A
+  pub val-done : (K : List Frame) (A : List Saved) (c : code.Control) (v : code-value.Value) → controlIs c ≡ val (valueIs v) → l ≡ core f η K A ++ R → Tells s h f K A
       → Fit (programOf s) (running (controlIs c) calm f η K A)
       → ((fr : Frame) (L : List Frame) → l ≡ core f η (fr ∷ L) A ++ R → Tells s h f (fr ∷ L) A → Fit (programOf s) (running (val (valueIs v)) calm f η (fr ∷ L) A)
       → Done s r l m R (give (programOf s) (valueIs v) calm f η (fr ∷ L) A))
       → Done s r l m R (next (programOf s) (running (controlIs c) calm f η K A))
-  unfolding controlIs
   val-done [] A c v e i j fit q = absurd ((rw e at fit) .proper .frames)
   val-done (fr ∷ L) A c v e i j fit q = rw e (q fr L i j (rw e at fit))
 
   module _ (K : List Frame) (A : List Saved) (t : List ℕ) (c : code.Control) where
-    pub eval-done : (i : ℕ) → c ≡ Eval i → Tells s h f K A → t ≡ partOf s (h .function) → Fit (programOf s) (running (controlIs c) calm f η K A)
+    pub eval-done : (i : ℕ) → c ≡ control.Eval i → Tells s h f K A → t ≡ partOf s (h .function) → Fit (programOf s) (running (controlIs c) calm f η K A)
         → (t ≡ partOf s f → Fit (programOf s) (running (eval i) calm f η K A) → Done s r l m R (opens (programOf s) (lookAt t i) calm f η K A))
         → Done s r l m R (next (programOf s) (running (controlIs c) calm f η K A))
     unfolding controlIs programOf
@@ -187,8 +199,8 @@ module _ (s : List ℕ) (r : Stepped) (h : Head) (l m R : List ℕ) (f : ℕ) (�
         let p : t ≡ partOf s f = part ∙ ap (partOf s) (j .function) in
         rw (e, ← p) (q p (rw e at fit))
 
-    pub exec-done : (k : code-ref.Ref) → c ≡ Exec k → Tells s h f K A → t ≡ partOf s (h .function) → Fit (programOf s) (running (controlIs c) calm f η K A)
-        → (t ≡ partOf s f → Fit (programOf s) (running (exec (refIs k)) calm f η K A) → Done s r l m R (runs (programOf s) (seeAt t (refIs k)) calm f η K A))
+    pub exec-done : (k : ℕ) → c ≡ control.Exec k → Tells s h f K A → t ≡ partOf s (h .function) → Fit (programOf s) (running (controlIs c) calm f η K A)
+        → (t ≡ partOf s f → Fit (programOf s) (running (exec (refOf k)) calm f η K A) → Done s r l m R (runs (programOf s) (seeAt t (refOf k)) calm f η K A))
         → Done s r l m R (next (programOf s) (running (controlIs c) calm f η K A))
     unfolding controlIs programOf
     exec-done k e j part fit q =

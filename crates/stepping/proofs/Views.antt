@@ -3,8 +3,7 @@ use mathlib.Core.Path.{_≡_}
 use Prim.Native.Nat.{ℕ}
 use Rattle.semantics.specs.Program.{op, fn}
 use Rattle.semantics.specs.Machine.{Frame, and, wait, branch, check}
-use Rattle.store.specs.declared.Ref.{Ref}
-use Rattle.store.specs.Meaning.{refIs}
+use Rattle.image.specs.Decode.{refOf}
 use Rattle.topframe.specs.declared.Top.{Top}
 use Rattle.topframe.specs.declared.Top.the-variants.{Operator, Call, And, Wait, Store, Branch, Leave, Assert, Discard}
 use Rattle.topframe.specs.Shows.{Gathers, Shows}
@@ -22,7 +21,7 @@ module _ (top : Top) (fr : Frame) (h : Shows top fr) where
   unfolding Shows
   is-and n e = rw e at h
 
-  pub is-wait : (r : Ref) → top ≡ Wait r → fr ≡ wait (refIs r)
+  pub is-wait : (r : ℕ) → top ≡ Wait r → fr ≡ wait (refOf r)
   unfolding Shows
   is-wait r e = rw e at h
 
@@ -30,7 +29,7 @@ module _ (top : Top) (fr : Frame) (h : Shows top fr) where
   unfolding Shows
   is-store x e = rw e at h
 
-  pub is-branch : (a b : Ref) → top ≡ Branch a b → fr ≡ branch (refIs a) (refIs b)
+  pub is-branch : (a b : ℕ) → top ≡ Branch a b → fr ≡ branch (refOf a) (refOf b)
   unfolding Shows
   is-branch a b e = rw e at h
 

@@ -6,7 +6,6 @@ use node_records::kind_at;
 use node_records::prior;
 use records::wide;
 use store::Control;
-use store::Ref;
 use store::Value;
 use topframe::Top;
 use transitions::Head;
@@ -26,9 +25,10 @@ ghost use Rattle.semantics.specs.Next as next;
 ghost use Rattle.semantics.specs.Fit.{Fit};
 ghost use Rattle.semantics.specs.File.{refAt, lookAt, formAt, seeAt, programOf};
 ghost use Rattle.image.specs.Layout.{refWord};
+ghost use Rattle.image.specs.Decode.{refOf};
 ghost use Rattle.image.specs.Image.{savedFrames};
 ghost use Rattle.image.specs.Core.{core};
-ghost use Rattle.store.specs.Meaning.{valueIs, refIs, controlIs};
+ghost use Rattle.store.specs.Meaning.{valueIs, controlIs};
 ghost use Rattle.transitions.specs.Comes.{Tells, Bounds, Starts, Called, Cleared, Comes};
 ghost use Rattle.stepping.specs.Done.{IsInt, IsTruth, Node, inLoop, Executes, Stands, Done};
 
@@ -74,8 +74,8 @@ fn operate(file: &[u8], m: &mut [u32], h: Head, o: u32, v: Value) -> Stepped
         return unreachable();
     };
     match arith::apply(file[8], o as u8, a, b) {
-        Applied::Int(word) => transitions::take_off(m, h, Control::Val(Value::Int(word))),
-        Applied::Truth(truth) => transitions::take_off(m, h, Control::Val(Value::Truth(truth))),
+        Applied::Int(word) => transitions::take_off(m, h, Control::Int(word)),
+        Applied::Truth(truth) => transitions::take_off(m, h, Control::Truth(truth)),
         Applied::Arith => raise(m, Stepped::Arith),
     }
 }
@@ -104,7 +104,7 @@ fn affirm(m: &mut [u32], h: Head, v: Value) -> Stepped
         return unreachable();
     };
     if truth {
-        transitions::take_off(m, h, Control::Exec(Ref::Nop))
+        transitions::take_off(m, h, Control::Exec(0))
     } else {
         raise(m, Stepped::Abort)
     }
@@ -126,22 +126,10 @@ fn depart(file: &[u8], starts: &[usize; 128], m: &mut [u32], h: Head, v: Value) 
     calling::leave(file, starts, m, h, v)
 }
 
-// The statement at node i; nop is one and the same.
-fn ref_at(part: &[u8], i: usize) -> Ref
-    requires { ⌜ (12 * i + 12 ≤ length (now part)) × (i < 4096) ⌝ }
-    ensures { λ r. ⌜ refIs r ≡ refAt (now (part .entry)) i ⌝ }
-{
-    if kind_at(part, i) == 6 {
-        Ref::Nop
-    } else {
-        Ref::Node(i as u32)
-    }
-}
-
-// Its word.
+// The word of the statement at node i; nop is one and the same.
 fn ref_word_at(part: &[u8], i: usize) -> u32
     requires { ⌜ (12 * i + 12 ≤ length (now part)) × (i < 4096) ⌝ }
-    ensures { λ r. ⌜ r ≡ refWord (refAt (now (part .entry)) i) ⌝ }
+    ensures { λ r. ⌜ (r ≡ refWord (refAt (now (part .entry)) i)) × (refOf r ≡ refAt (now (part .entry)) i) ⌝ }
 {
     if kind_at(part, i) == 6 {
         0
@@ -182,7 +170,7 @@ fn open(file: &[u8], starts: &[usize; 128], part: &[u8], m: &mut [u32], h: Head,
             let x = b_at(part, at) as usize;
             let callers = h.callers;
             let v = callstack::variable(m, callers, x);
-            Stepped::Went(Control::Val(v), h)
+            Stepped::Went(store::at_hand(v), h)
         }
         3 => gathering::gather(part, m, h, 1, wide(a_at(part, at)), 2, at - 1),
         4 => {
@@ -235,7 +223,7 @@ fn execute_node(part: &[u8], m: &mut [u32], h: Head, i: u32) -> Stepped
         7 => {
             let first = prior(part, last);
             let word = ref_word_at(part, last);
-            transitions::lay(m, h, 4, word, 0, Control::Exec(ref_at(part, first)))
+            transitions::lay(m, h, 4, word, 0, Control::Exec(ref_word_at(part, first)))
         }
         8 => transitions::lay(
             m,
@@ -250,7 +238,7 @@ fn execute_node(part: &[u8], m: &mut [u32], h: Head, i: u32) -> Stepped
             h,
             b_at(part, at),
             Value::Nothing,
-            Control::Exec(ref_at(part, last)),
+            Control::Exec(ref_word_at(part, last)),
         ),
         10 => {
             let first = prior(part, last);
@@ -259,7 +247,7 @@ fn execute_node(part: &[u8], m: &mut [u32], h: Head, i: u32) -> Stepped
             let y = ref_word_at(part, last);
             transitions::lay(m, h, 6, x, y, gathering::reach(part, condition as u32))
         }
-        11 => Stepped::Went(Control::Exec(Ref::IfOf(i)), h),
+        11 => Stepped::Went(Control::Exec(2 + 3 * i), h),
         12..=14 => transitions::lay(
             m,
             h,
@@ -279,7 +267,14 @@ fn execute_loop(part: &[u8], m: &mut [u32], h: Head, w: u32, inner: bool) -> Ste
 {
     let last = w as usize - 1;
     if inner {
-        return transitions::lay(m, h, 4, 1 + 3 * w, 0, Control::Exec(ref_at(part, last)));
+        return transitions::lay(
+            m,
+            h,
+            4,
+            1 + 3 * w,
+            0,
+            Control::Exec(ref_word_at(part, last)),
+        );
     }
     let condition = prior(part, last);
     transitions::lay(
@@ -292,17 +287,21 @@ fn execute_loop(part: &[u8], m: &mut [u32], h: Head, w: u32, inner: bool) -> Ste
     )
 }
 
-// Executes a statement.
-fn execute(part: &[u8], m: &mut [u32], h: Head, r: Ref) -> Stepped
-    requires { ⌜ Bounds h (now m) × Executes (now part) (refIs r) ⌝ }
-    requires waits { ⌜ (refIs r ≡ program.Ref.nop → 1 ≤ h .frames) ⌝ }
-    ensures { λ a. ⌜ ((s : List ℕ) (f : ℕ) (η : List values.Value) (K : List Frame) (A : List Saved) (R : List ℕ) → now (m .entry) ≡ core f η K A ++ R → Tells s h f K A → checkOf s ≡ accepted → now (part .entry) ≡ partOf s f → Fit (programOf s) (running (machine.exec (refIs r)) calm f η K A) → Done s a (now (m .entry)) (now (m .exit)) R (next.runs (programOf s) (seeAt (now (part .entry)) (refIs r)) calm f η K A)) ⌝ }
+// Executes the statement of a word.
+fn execute(part: &[u8], m: &mut [u32], h: Head, r: u32) -> Stepped
+    requires { ⌜ Bounds h (now m) × Executes (now part) (refOf r) ⌝ }
+    requires waits { ⌜ (refOf r ≡ program.Ref.nop → 1 ≤ h .frames) ⌝ }
+    ensures { λ a. ⌜ ((s : List ℕ) (f : ℕ) (η : List values.Value) (K : List Frame) (A : List Saved) (R : List ℕ) → now (m .entry) ≡ core f η K A ++ R → Tells s h f K A → checkOf s ≡ accepted → now (part .entry) ≡ partOf s f → Fit (programOf s) (running (machine.exec (refOf r)) calm f η K A) → Done s a (now (m .entry)) (now (m .exit)) R (next.runs (programOf s) (seeAt (now (part .entry)) (refOf r)) calm f η K A)) ⌝ }
 {
-    match r {
-        Ref::Nop => resume(m, h),
-        Ref::Node(i) => execute_node(part, m, h, i),
-        Ref::IfOf(w) => execute_loop(part, m, h, w, false),
-        Ref::SeqOf(w) => execute_loop(part, m, h, w, true),
+    if r == 0 {
+        return resume(m, h);
+    }
+    let n = (r - 1) / 3;
+    let form = (r - 1) % 3;
+    match form {
+        0 => execute_node(part, m, h, n),
+        1 => execute_loop(part, m, h, n, false),
+        _ => execute_loop(part, m, h, n, true),
     }
 }
 
@@ -335,14 +334,14 @@ fn give(
         }
         Top::And(l) => {
             let c = gathering::reach(part, l);
-            choose(m, h, v, c, Control::Val(Value::Truth(false)))
+            choose(m, h, v, c, Control::Truth(false))
         }
         Top::Wait(r) => Stepped::Full,
         Top::Store(x) => transitions::assign(m, h, x, v),
         Top::Branch(a, b) => choose(m, h, v, Control::Exec(a), Control::Exec(b)),
         Top::Leave => depart(file, starts, m, h, v),
         Top::Assert => affirm(m, h, v),
-        Top::Discard => transitions::take_off(m, h, Control::Exec(Ref::Nop)),
+        Top::Discard => transitions::take_off(m, h, Control::Exec(0)),
     }
 }
 
@@ -354,9 +353,12 @@ pub fn step(file: &[u8], starts: &[usize; 128], m: &mut [u32], c: Control, h: He
     let a = h.start;
     let e = a + 12 * h.count;
     let part = &file[a..e];
-    match c {
-        Control::Val(v) => give(file, starts, part, m, h, v),
-        Control::Eval(i) => open(file, starts, part, m, h, i),
-        Control::Exec(r) => execute(part, m, h, r),
-    }
+    let v = match c {
+        Control::Nothing => Value::Nothing,
+        Control::Int(word) => Value::Int(word),
+        Control::Truth(truth) => Value::Truth(truth),
+        Control::Eval(i) => return open(file, starts, part, m, h, i),
+        Control::Exec(r) => return execute(part, m, h, r),
+    };
+    give(file, starts, part, m, h, v)
 }

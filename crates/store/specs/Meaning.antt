@@ -9,7 +9,8 @@ use Rattle.store.specs.declared.Value.the-variants.{Nothing, Int, Truth}
 use Rattle.store.specs.declared.Ref.{Ref}
 use Rattle.store.specs.declared.Ref.the-variants.{Nop, Node, IfOf, SeqOf}
 use Rattle.store.specs.declared.Control.{Control}
-use Rattle.store.specs.declared.Control.the-variants.{Val, Eval, Exec}
+use Rattle.store.specs.declared.Control.the-variants as control
+use Rattle.image.specs.Decode.{refOf}
 
 -- a value
 unfoldable pub valueIs : Value → values.Value
@@ -26,9 +27,11 @@ refIs (SeqOf n) = program.seqOf n
 
 -- a control
 unfoldable pub controlIs : Control → machine.Control
-controlIs (Val v) = machine.val (valueIs v)
-controlIs (Eval n) = machine.eval n
-controlIs (Exec r) = machine.exec (refIs r)
+controlIs control.Nothing = machine.val values.nothing
+controlIs (control.Int n) = machine.val (values.int n)
+controlIs (control.Truth b) = machine.val (values.truth b)
+controlIs (control.Eval n) = machine.eval n
+controlIs (control.Exec w) = machine.exec (refOf w)
 
 -- the place of the frame with n frames under it
 unfoldable pub frameAt : ℕ → ℕ

@@ -1,10 +1,11 @@
 // The machine's words: values, references, controls, frames and activations in lent memory.
 ghost use mathlib.Core.Path.{_≡_};
 ghost use mathlib.Core.List.{[], _∷_};
-ghost use Prim.Native.Nat.{_+_, _*_, _≤_, _<_};
+ghost use Prim.Native.Nat.{_+_, _≤_};
 ghost use lib.ListN.{length, getD};
 ghost use Rattle.words.specs.Blocks.{puts};
-ghost use Rattle.image.specs.Layout.{bit, valueWords, refWord};
+ghost use Rattle.semantics.specs.Machine as machine;
+ghost use Rattle.image.specs.Layout.{bit, valueWords};
 ghost use Rattle.image.specs.Decode.{valueOf, refOf, controlOf};
 ghost use Rattle.store.specs.Meaning.{valueIs, refIs, controlIs};
 
@@ -23,11 +24,13 @@ pub enum Ref {
     SeqOf(u32),
 }
 
-// A value at hand, an expression to evaluate, a statement to execute.
+// A value at hand, an expression to evaluate by its node, a statement to execute by its word.
 pub enum Control {
-    Val(Value),
+    Nothing,
+    Int(u32),
+    Truth(bool),
     Eval(u32),
-    Exec(Ref),
+    Exec(u32),
 }
 
 // The value of a type and a word.
@@ -93,28 +96,26 @@ pub fn ref_of(word: u32) -> Ref
     }
 }
 
-// The word of a reference, to a node of a part.
-pub fn ref_word(r: Ref) -> u32
-    requires { ⌜ refWord (refIs r) < 4294967296 ⌝ }
-    ensures { λ w. ⌜ w ≡ refWord (refIs r) ⌝ }
-{
-    match r {
-        Ref::Nop => 0,
-        Ref::Node(n) => 1 + 3 * n,
-        Ref::IfOf(n) => 2 + 3 * n,
-        Ref::SeqOf(n) => 3 + 3 * n,
-    }
-}
-
 // The control of a form and a word.
 pub fn control_of(form: u32, word: u32) -> Control
     ensures { λ r. ⌜ controlIs r ≡ controlOf form word ⌝ }
 {
     match form {
-        1 => Control::Val(Value::Nothing),
-        2 => Control::Val(Value::Int(word)),
-        3 => Control::Val(Value::Truth(word == 1)),
+        1 => Control::Nothing,
+        2 => Control::Int(word),
+        3 => Control::Truth(word == 1),
         4 => Control::Eval(word),
-        _ => Control::Exec(ref_of(word)),
+        _ => Control::Exec(word),
+    }
+}
+
+// The control that has a value at hand.
+pub fn at_hand(v: Value) -> Control
+    ensures { λ r. ⌜ controlIs r ≡ machine.val (valueIs v) ⌝ }
+{
+    match v {
+        Value::Nothing => Control::Nothing,
+        Value::Int(word) => Control::Int(word),
+        Value::Truth(truth) => Control::Truth(truth),
     }
 }

@@ -3,7 +3,7 @@ use mathlib.Core.Path.{_≡_}
 use mathlib.Core.List.{List}
 use Prim.Native.Nat.{ℕ}
 use lib.ListN.{length}
-use Rattle.store.specs.Meaning.{refIs}
+use Rattle.image.specs.Decode.{refOf}
 use Rattle.semantics.specs.Values.{Value}
 use Rattle.semantics.specs.Program.{Head, op, fn}
 use Rattle.semantics.specs.Machine.{Frame, gather, and, wait, branch, check}
@@ -23,9 +23,9 @@ unfoldable pub Shows : Top → Frame → Type 0
 Shows (Operator o y z) fr = Gathers fr (op o) y z
 Shows (Call g y z) fr = Gathers fr (fn g) y z
 Shows (And n) fr = fr ≡ and n
-Shows (Wait r) fr = fr ≡ wait (refIs r)
+Shows (Wait r) fr = fr ≡ wait (refOf r)
 Shows (Store x) fr = fr ≡ Frame.store x
-Shows (Branch a b) fr = fr ≡ branch (refIs a) (refIs b)
+Shows (Branch a b) fr = fr ≡ branch (refOf a) (refOf b)
 Shows Leave fr = fr ≡ Frame.leave
 Shows Assert fr = fr ≡ check
 Shows Discard fr = fr ≡ Frame.discard

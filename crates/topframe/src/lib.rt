@@ -1,6 +1,5 @@
 // The top frame of a running state: read as a view, and laid with the nodes of operands that wait.
 use node_records::prior;
-use store::Ref;
 ghost use mathlib.Core.Path.{_≡_};
 ghost use mathlib.Core.List.{List, [], _∷_, _++_};
 ghost use Prim.Native.Nat.{ℕ, _+_, _*_, _≤_, _<_};
@@ -21,9 +20,9 @@ pub enum Top {
     Operator(u32, u32, u32),
     Call(u32, u32, u32),
     And(u32),
-    Wait(Ref),
+    Wait(u32),
     Store(u32),
-    Branch(Ref, Ref),
+    Branch(u32, u32),
     Leave,
     Assert,
     Discard,
@@ -42,9 +41,9 @@ pub fn top_frame(m: &[u32], n: usize) -> Top
         1 => Top::Operator(x, y, m[at + 3]),
         2 => Top::Call(x, y, m[at + 3]),
         3 => Top::And(x),
-        4 => Top::Wait(store::ref_of(x)),
+        4 => Top::Wait(x),
         5 => Top::Store(x),
-        6 => Top::Branch(store::ref_of(x), store::ref_of(y)),
+        6 => Top::Branch(x, y),
         7 => Top::Leave,
         8 => Top::Assert,
         _ => Top::Discard,

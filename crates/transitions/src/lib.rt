@@ -1,6 +1,5 @@
 // What the rules do to lent memory: each function takes a running state to the next, and says how the run stands then.
 use store::Control;
-use store::Ref;
 use store::Value;
 ghost use mathlib.Core.Path.{_≡_};
 ghost use mathlib.Core.List.{List, [], _∷_, _++_};
@@ -92,7 +91,7 @@ pub fn assign(m: &mut [u32], h: Head, x: u32, v: Value) -> Stepped
     ensures { λ r. ⌜ ((s : List ℕ) (f : ℕ) (η : List values.Value) (fr : Frame) (K : List Frame) (A : List Saved) (R : List ℕ) → now (m .entry) ≡ core f η (fr ∷ K) A ++ R → Tells s h f (fr ∷ K) A → x < length η → length η ≤ 64 → Comes s r (now (m .entry)) (now (m .exit)) R (running (machine.exec program.Ref.nop) calm f (set η x (valueIs v)) K A)) ⌝ }
 {
     callstack::set_variable(m, h.callers, x as usize, v);
-    take_off(m, h, Control::Exec(Ref::Nop))
+    take_off(m, h, Control::Exec(0))
 }
 
 // Stores the operand that follows y values in the top frame, with z nodes waiting after it.

@@ -2,7 +2,10 @@ use mathlib.Core.Path.{sym, ap, _∙_}
 use borrow.Author.Tests.{ne-eqb}
 use native.Mathlib.Omega.{arith}
 use Rattle.semantics.specs.File.{refAt, funOf}
-use Rattle.store.specs.Meaning.{refIs}
+use Rattle.semantics.specs.Program.{node}
+use Rattle.image.specs.Layout.{refWord}
+use Rattle.image.specs.Decode.{refOf}
+use Rattle.image.proofs.Parts.{ref-back}
 use Rattle.transitions.proofs.Looks.{body-kind}
 use borrow.Author.Needs.{needs}
 use Rattle.calling.proofs.body_of.Statement.{statement}
@@ -31,18 +34,24 @@ shared-slice-read-kind : tie.Need-shared-slice-read-kind
 shared-slice-read-kind c = search needs
 
 -- src/lib.rt:166:19
-cast-t13 : tie.Need-cast-t13
-cast-t13 c = search needs
+cast-result : tie.Need-cast-result
+cast-result c = search needs
 
 -- src/lib.rt:157:1
+mul-result : tie.Need-mul-result
+mul-result c = search needs
+
+add-result : tie.Need-add-result
+add-result c = search needs
+
 returns : tie.Need-returns
-unfolding refIs refAt funOf
+unfolding refOf refAt funOf
 returns c g a b = rw (body-kind _ g _ _ a b (search needs), c .if1 .taken)
 
 -- src/lib.rt:157:1
 returns-2 : tie.Need-returns-2
-unfolding refIs refAt funOf
-returns-2 c g a b = rw (body-kind _ g _ _ a b (search needs), ne-eqb _ 6 (c .if1 .left), b)
+unfolding refAt funOf refWord
+returns-2 c g a b = ref-back (node _) ∙ rw (body-kind _ g _ _ a b (search needs), ne-eqb _ 6 (c .if1 .left), b)
 
 pub body-of-spec : {M : Type 1} → statement M
 body-of-spec =
@@ -53,6 +62,8 @@ body-of-spec =
     add-kind
     add-kind-2
     shared-slice-read-kind
-    cast-t13
+    cast-result
+    mul-result
+    add-result
     returns
     returns-2)

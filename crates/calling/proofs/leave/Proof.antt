@@ -16,6 +16,9 @@ use Rattle.activations.proofs.caller_function.Reads as caller-function-reads
 use Rattle.activations.proofs.leave.Reads as leave-reads
 use Rattle.records.proofs.count_of.Reads as count-of-reads
 
+at-hand-requires : tie.Need-at-hand-requires
+at-hand-requires c κs = search needs
+
 -- src/lib.rt:227:19
 sub-callers : tie.Need-sub-callers
 sub-callers c = search needs
@@ -46,15 +49,15 @@ mul-t18 c = search needs
 
 -- src/lib.rt:235:20
 element-copy-out-t21 : tie.Need-element-copy-out-t21
-element-copy-out-t21 c = let b = c .before .before .before .before .before .before .before .before .before .before .before in let q = b .pre .1 in let r = c .before .before .before .before .before .before .caller-function .ensures _ _ _ _ _ _ _ _ (q .held) (left-callers (q .tells) _ (omega (arith, b .pre .0 .1))) in omega (arith, r, q .known, b .pre .0 .2 .0 .few)
+element-copy-out-t21 c = let b = c .before .before .before .before .before .before .before .before .before .before .before .before in let q = b .pre .1 in let r = c .before .before .before .before .before .before .caller-function .ensures _ _ _ _ _ _ _ _ (q .held) (left-callers (q .tells) _ (omega (arith, b .pre .0 .1))) in omega (arith, r, q .known, b .pre .0 .2 .0 .few)
 
 -- src/lib.rt:236:20
 count-of-requires : tie.Need-count-of-requires
-count-of-requires c κs = let b = c .before .before .before .before .before .before .before .before .before .before .before .before in let q = b .pre .1 in let r = c .before .before .before .before .before .before .before .caller-function .ensures _ _ _ _ _ _ _ _ (q .held) (left-callers (q .tells) _ (omega (arith, b .pre .0 .1))) in omega (arith, r, q .known, b .pre .0 .2 .0 .heads)
+count-of-requires c κs = let b = c .before .before .before .before .before .before .before .before .before .before .before .before .before in let q = b .pre .1 in let r = c .before .before .before .before .before .before .before .caller-function .ensures _ _ _ _ _ _ _ _ (q .held) (left-callers (q .tells) _ (omega (arith, b .pre .0 .1))) in omega (arith, r, q .known, b .pre .0 .2 .0 .heads)
 
 -- src/lib.rt:239:20
 sub-t23 : tie.Need-sub-t23
-sub-t23 c = let b = c .before .before .before .before .before .before .before .before .before .before .before .before .before .before in let q = b .pre .1 in let r = c .before .before .before .before .before .before .before .caller-frames .ensures _ _ _ _ _ _ _ _ (q .held) (left-callers (q .tells) _ (omega (arith, b .pre .0 .1))) in omega (arith, r, left-under (q .tells))
+sub-t23 c = let b = c .before .before .before .before .before .before .before .before .before .before .before .before .before .before .before in let q = b .pre .1 in let r = c .before .before .before .before .before .before .before .caller-frames .ensures _ _ _ _ _ _ _ _ (q .held) (left-callers (q .tells) _ (omega (arith, b .pre .0 .1))) in omega (arith, r, left-under (q .tells))
 
 -- src/lib.rt:222:1
 same-length : tie.Need-same-length
@@ -64,7 +67,7 @@ same-length c = search needs
 returns : tie.Need-returns
 unfolding controlIs
 returns c f η J g θ L A R e t =
-    let b = c .before .before .before .before .before .before .before .before .before .before .before .before .before .before in
+    let b = c .before .before .before .before .before .before .before .before .before .before .before .before .before .before .before in
     let q = b .pre .1 in
     let a = left-callers t (b .args .h .callers - 1) (omega (arith, b .pre .0 .1)) in
     let r = c .before .before .before .before .before .before .before .before .before .caller-function .ensures f η J g θ L A R e a in
@@ -72,7 +75,7 @@ returns c f η J g θ L A R e t =
     let k = c .before .before .before .before .before .before .before .caller-frames .ensures f η J g θ L A R e a in
     let u = left-under t in
     let known : g < functions (b .args .file .now) = rw (sym r ∙ o) (q .known) in
-    on-is _ _ _ _ _ R _ _ _ θ L A refl refl
+    on-is _ _ _ _ _ R _ _ _ θ L A (c .before .before .before .before .before .before .before .before .before .before .before .before .at-hand .ensures) refl
     (c .before .before .before .before .before .leave .ensures f η J g θ L A R e a (omega (arith, u, length-append L (savedFrames A))) (t .frames))
     (left-tells _ _ f J g θ L A _ _ _ _ _ _ t r (left-place _ (b .args .starts .now) g _ (b .pre .0 .2) known r) (c .before .count-of .ensures .0 ∙ rw r) (omega (arith, b .pre .0 .1)) k refl)
     (search needs) (omega (arith, k, u, b .pre .0 .0 .2))
@@ -81,6 +84,7 @@ pub leave-spec : {M : Type 1} → statement M
 leave-spec =
     tie.close
     (tie.spec
+    at-hand-requires
     sub-callers
     caller-function-requires
     cast-function

@@ -12,7 +12,7 @@ use Rattle.semantics.specs.File.{programOf}
 use Rattle.image.specs.Core.{core}
 use Rattle.store.specs.Meaning.{controlIs}
 use Rattle.transitions.specs.Comes.{Tells}
-use Rattle.machine.proofs.Reaching.{Reached, reached, reached-stands, reached-on, reached-full, reached-returned, reached-arith, reached-abort, reached-bounds, stands-small}
+use Rattle.machine.proofs.Reaching.{Reached, reached, reached-stands, reached-on, reached-full, reached-returned, reached-arith, reached-abort, reached-bounds}
 use Rattle.machine.proofs.go.Statement.{statement}
 use Rattle.machine.proofs.go.Tie as tie
 use Rattle.machine.proofs.go.Reads as reads
@@ -82,9 +82,8 @@ stop-requires c κs =
     let l = c .before .before .before .before .before .before .before .before .loop in
     let z = b .pre .0 in
     let r = l .inv .2 (b .args .head .function) (z .variables) (z .frames) (z .callers) (z .rest) (z .held) (z .tells) (z .fit) in
-    let q = reached-stands _ (b .args .starts .now) _ _ _ _ _ _ _ _ (z .passed) (z .starts) r in
     let w = reached-bounds _ _ _ _ _ _ _ _ _ r (omega (arith, l .inv .1, b .pre .1)) in
-    ((omega (arith, c .before .before .before .before .before .step .kept .1 .1 .0, l .inv .1, b .pre .1), w .1, w .2), stands-small _ (b .args .starts .now) _ _ _ q)
+    (omega (arith, c .before .before .before .before .before .step .kept .1 .1 .0, l .inv .1, b .pre .1), w .1, w .2)
 
 -- src/lib.rt:146:30
 same-length : tie.Need-same-length Inv-loop μ-loop
@@ -188,8 +187,7 @@ stop-requires-2 c κs =
     let l = c .before .before .loop in
     let z = b .pre .0 in
     let r = l .inv .2 (b .args .head .function) (z .variables) (z .frames) (z .callers) (z .rest) (z .held) (z .tells) (z .fit) in
-    let q = reached-stands _ (b .args .starts .now) _ _ _ _ _ _ _ _ (z .passed) (z .starts) r in
-    (reached-bounds _ _ _ _ _ _ _ _ _ r (omega (arith, l .inv .1, b .pre .1)), stands-small _ (b .args .starts .now) _ _ _ q)
+    reached-bounds _ _ _ _ _ _ _ _ _ r (omega (arith, l .inv .1, b .pre .1))
 
 -- src/lib.rt:132:1
 same-length-5 : tie.Need-same-length-5 Inv-loop μ-loop

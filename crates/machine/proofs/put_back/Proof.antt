@@ -1,122 +1,89 @@
 use mathlib.Core.Path.{_≡_, refl, sym, ap, _∙_}
 use Rattle.semantics.specs.Machine.{calm, val, eval, exec}
 use Rattle.semantics.specs.Values.{nothing, int, truth}
-use Rattle.image.specs.Layout.{refWord, controlWords}
-use Rattle.store.specs.Meaning.{valueIs, refIs, controlIs}
+use Rattle.image.specs.Layout.{controlWords}
+use Rattle.image.specs.Decode.{refOf}
+use Rattle.image.proofs.Parts.{ref-word}
+use Rattle.store.specs.Meaning.{controlIs}
 use borrow.Author.Needs.{needs}
 use Rattle.machine.proofs.put_back.Statement.{statement}
 use Rattle.machine.proofs.put_back.Tie as tie
-use Rattle.machine.proofs.put_back.Reads as reads
-use Rattle.machine.proofs.put_back.Lts as lts
 use Rattle.heads.proofs.store_head.Reads as store-head-reads
 use Rattle.store.proofs.bit_of.Reads as bit-of-reads
-use Rattle.store.proofs.ref_word.Reads as ref-word-reads
 
--- src/lib.rt:71:19
 cast-callers : tie.Need-cast-callers
 cast-callers c = search needs
 
--- src/lib.rt:72:18
 cast-frames : tie.Need-cast-frames
 cast-frames c = search needs
 
--- src/lib.rt:74:22
-enum-known-c : tie.Need-enum-known-c
-enum-known-c c = search needs
-
--- src/lib.rt:75:53
 enum-told : tie.Need-enum-told
 enum-told c = search needs
 
--- src/lib.rt:75:31
 store-head-requires : tie.Need-store-head-requires
 store-head-requires c κs = search needs
 
--- src/lib.rt:76:24
-enum-known-v : tie.Need-enum-known-v
-enum-known-v c = search needs
+enum-known-c : tie.Need-enum-known-c
+enum-known-c c = search needs
 
--- src/lib.rt:76:33
 store-head-requires-2 : tie.Need-store-head-requires-2
 store-head-requires-2 c κs = search needs
 
--- src/lib.rt:77:26
-enum-known-v-2 : tie.Need-enum-known-v-2
-enum-known-v-2 c = search needs
-
--- src/lib.rt:77:84
-bit-of-requires : tie.Need-bit-of-requires
-bit-of-requires c κs = search needs
-
--- src/lib.rt:77:36
-store-head-requires-3 : tie.Need-store-head-requires-3
-store-head-requires-3 c κs = search needs
-
--- src/lib.rt:79:23
 enum-known-c-2 : tie.Need-enum-known-c-2
 enum-known-c-2 c = search needs
 
--- src/lib.rt:79:29
-store-head-requires-4 : tie.Need-store-head-requires-4
-store-head-requires-4 c κs = search needs
+bit-of-requires : tie.Need-bit-of-requires
+bit-of-requires c κs = search needs
 
--- src/lib.rt:80:23
+store-head-requires-3 : tie.Need-store-head-requires-3
+store-head-requires-3 c κs = search needs
+
 enum-known-c-3 : tie.Need-enum-known-c-3
 enum-known-c-3 c = search needs
 
--- src/lib.rt:80:77
-ref-word-requires : tie.Need-ref-word-requires
-unfolding controlIs controlWords
-ref-word-requires c κs = c .before .before .before .before .before .before .before .pre .1 _ (rw (c .before .before .c3 .given .1))
+store-head-requires-4 : tie.Need-store-head-requires-4
+store-head-requires-4 c κs = search needs
 
--- src/lib.rt:80:29
+enum-known-c-4 : tie.Need-enum-known-c-4
+enum-known-c-4 c = search needs
+
 store-head-requires-5 : tie.Need-store-head-requires-5
 store-head-requires-5 c κs = search needs
 
--- src/lib.rt:65:1
 same-length : tie.Need-same-length
 same-length c = search needs
 
--- src/lib.rt:65:1
 returns : tie.Need-returns
-unfolding controlIs valueIs controlWords
-returns c s f η K A R e t = rw (c .before .before .before .before .before .before .before .c .given .1, c .before .before .before .before .enum-told .given .1) (c .before .before .store-head .ensures (val nothing) calm f η K A R e (t .callers) (t .frames) refl)
+unfolding controlIs controlWords
+returns c s f η K A R e t = rw (c .before .before .before .before .enum-told .given .1) (c .before .before .store-head .ensures (val nothing) calm f η K A R e (t .callers) (t .frames) refl)
 
--- src/lib.rt:65:1
 same-length-2 : tie.Need-same-length-2
 same-length-2 c = search needs
 
--- src/lib.rt:65:1
 returns-2 : tie.Need-returns-2
-unfolding controlIs valueIs controlWords
-returns-2 c s f η K A R e t = rw (c .before .before .before .before .before .before .before .before .c .given .1, c .before .before .before .before .before .v .given .1) (c .before .before .store-head2 .ensures (val (int _)) calm f η K A R e (t .callers) (t .frames) refl)
+unfolding controlIs controlWords
+returns-2 c s f η K A R e t = rw (c .before .before .before .before .before .c .given .1) (c .before .before .store-head2 .ensures (val (int _)) calm f η K A R e (t .callers) (t .frames) refl)
 
--- src/lib.rt:65:1
 same-length-3 : tie.Need-same-length-3
 same-length-3 c = search needs
 
--- src/lib.rt:65:1
 returns-3 : tie.Need-returns-3
-unfolding controlIs valueIs controlWords
-returns-3 c s f η K A R e t = rw (c .before .before .before .before .before .before .before .before .before .c .given .1, c .before .before .before .before .before .before .v2 .given .1) (c .before .before .store-head3 .ensures (val (truth _)) calm f η K A R e (t .callers) (t .frames) (rw (c .before .before .before .bit-of .ensures)))
+unfolding controlIs controlWords
+returns-3 c s f η K A R e t = rw (c .before .before .before .before .before .before .c2 .given .1) (c .before .before .store-head3 .ensures (val (truth _)) calm f η K A R e (t .callers) (t .frames) (rw (c .before .before .before .bit-of .ensures)))
 
--- src/lib.rt:65:1
 same-length-4 : tie.Need-same-length-4
 same-length-4 c = search needs
 
--- src/lib.rt:65:1
 returns-4 : tie.Need-returns-4
-unfolding controlIs valueIs controlWords
-returns-4 c s f η K A R e t = rw (c .before .before .before .before .before .c2 .given .1) (c .before .before .store-head4 .ensures (eval _) calm f η K A R e (t .callers) (t .frames) refl)
+unfolding controlIs controlWords
+returns-4 c s f η K A R e t = rw (c .before .before .before .before .before .c3 .given .1) (c .before .before .store-head4 .ensures (eval _) calm f η K A R e (t .callers) (t .frames) refl)
 
--- src/lib.rt:65:1
 same-length-5 : tie.Need-same-length-5
 same-length-5 c = search needs
 
--- src/lib.rt:65:1
 returns-5 : tie.Need-returns-5
-unfolding controlIs valueIs controlWords
-returns-5 c s f η K A R e t = rw (c .before .before .before .before .before .before .c3 .given .1) (c .before .before .store-head5 .ensures (exec (refIs _)) calm f η K A R e (t .callers) (t .frames) (rw (c .before .before .before .ref-word .ensures)))
+unfolding controlIs controlWords
+returns-5 c s f η K A R e t = rw (c .before .before .before .before .before .c4 .given .1) (c .before .before .store-head5 .ensures (exec (refOf _)) calm f η K A R e (t .callers) (t .frames) (rw (ref-word (c .before .before .before .before .before .c4 .given .0 .0))))
 
 pub put-back-spec : {M : Type 1} → statement M
 put-back-spec =
@@ -124,18 +91,16 @@ put-back-spec =
     (tie.spec
     cast-callers
     cast-frames
-    enum-known-c
     enum-told
     store-head-requires
-    enum-known-v
+    enum-known-c
     store-head-requires-2
-    enum-known-v-2
+    enum-known-c-2
     bit-of-requires
     store-head-requires-3
-    enum-known-c-2
-    store-head-requires-4
     enum-known-c-3
-    ref-word-requires
+    store-head-requires-4
+    enum-known-c-4
     store-head-requires-5
     same-length
     returns

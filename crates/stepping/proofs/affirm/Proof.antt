@@ -5,7 +5,8 @@ use lib.ListN.{length, length-append}
 use Rattle.image.specs.Image.{savedFrames}
 use Rattle.semantics.specs.Machine.{exception, abort}
 use Rattle.transitions.specs.Comes.{Comes}
-use Rattle.store.specs.Meaning.{valueIs, refIs, controlIs}
+use Rattle.image.specs.Decode.{refOf}
+use Rattle.store.specs.Meaning.{valueIs, controlIs}
 use Rattle.transitions.proofs.Steps.{counted}
 use Rattle.stepping.proofs.Sorts.{truth-only}
 use borrow.Author.Needs.{needs}
@@ -43,7 +44,7 @@ same-length c = search needs
 
 -- src/lib.rt:96:1
 returns-2 : tie.Need-returns-2
-unfolding valueIs controlIs refIs
+unfolding valueIs controlIs refOf
 returns-2 c s p q f η fr K A R e t = rw (c .before .before .before .before .before .before .v .given .1, c .before .before .before .before .if1 .taken) (c .before .before .take-off .ensures s f η fr K A R e t)
 
 -- src/lib.rt:96:1

@@ -11,7 +11,6 @@ use Rattle.stepping.proofs.execute_loop.Tie as tie
 use Rattle.stepping.proofs.execute_loop.Reads as reads
 use Rattle.stepping.proofs.execute_loop.Lts as lts
 use Rattle.node_records.proofs.prior.Reads as prior-reads
-use Rattle.stepping.proofs.ref_at.Reads as ref-at-reads
 use Rattle.transitions.proofs.lay.Reads as lay-reads
 use Rattle.gathering.proofs.reach.Reads as reach-reads
 
@@ -28,8 +27,8 @@ add-lay : tie.Need-add-lay
 add-lay c = search needs
 
 -- src/lib.rt:248:70
-ref-at-requires : tie.Need-ref-at-requires
-ref-at-requires c κs = search needs
+ref-word-at-requires : tie.Need-ref-word-at-requires
+ref-word-at-requires c κs = search needs
 
 -- src/lib.rt:248:9
 lay-requires : tie.Need-lay-requires
@@ -44,7 +43,7 @@ returns : tie.Need-returns
 unfolding controlIs refWord frameWords block
 returns c s f η K A R e t part k =
     let b = c .before .before .before .before .before .before .before .before in
-    rw (c .before .before .before .before .before .if1 .taken, see-seq _ _ (b .pre .3) k, ← (c .before .before .before .ref-at .ensures)) (c .before .before .lay .ensures s f η (wait (node _)) K A R e t refl)
+    rw (c .before .before .before .before .before .if1 .taken, see-seq _ _ (b .pre .3) k, ← (c .before .before .before .ref-word-at .ensures .1)) (c .before .before .lay .ensures s f η (wait (node _)) K A R e t refl)
 
 -- src/lib.rt:250:9
 prior-requires : tie.Need-prior-requires
@@ -88,7 +87,7 @@ execute-loop-spec =
     sub-last
     mul-lay
     add-lay
-    ref-at-requires
+    ref-word-at-requires
     lay-requires
     same-length
     returns

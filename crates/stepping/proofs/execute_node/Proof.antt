@@ -5,12 +5,13 @@ use native.Mathlib.Omega.{arith}
 use Prim.Native.Nat.{ℕ, _-_, _≤_, _<_}
 use lib.ListN.{length}
 use Rattle.semantics.specs.Program.{ifOf}
-use Rattle.semantics.specs.Machine.{Frame, wait, branch}
+use Rattle.semantics.specs.Machine.{Frame, wait, branch, exec}
 use Rattle.semantics.specs.File.{refAt, programOf}
-use Rattle.image.specs.Layout.{frameWords, block}
+use Rattle.image.specs.Layout.{refWord, frameWords, block}
 use Rattle.records.specs.Fields.{sizeAt, bAt, kindAt}
-use Rattle.store.specs.Meaning.{valueIs, refIs, controlIs}
-use Rattle.transitions.proofs.Steps.{on}
+use Rattle.store.specs.Meaning.{valueIs, controlIs}
+use Rattle.image.proofs.Parts.{ref-back}
+use Rattle.transitions.proofs.Entries.{on-is}
 use Rattle.stepping.proofs.Facts.{variables-few, decl-variable}
 use Rattle.stepping.proofs.Forms.{form-seq, form-assign, form-decl, form-if, form-while, single-done}
 use borrow.Author.Needs.{needs}
@@ -22,7 +23,6 @@ use Rattle.node_records.proofs.b_at.Reads as b-at-reads
 use Rattle.node_records.proofs.kind_at.Reads as kind-at-reads
 use Rattle.node_records.proofs.prior.Reads as prior-reads
 use Rattle.records.proofs.wide.Reads as wide-reads
-use Rattle.stepping.proofs.ref_at.Reads as ref-at-reads
 use Rattle.stepping.proofs.ref_word_at.Reads as ref-word-at-reads
 use Rattle.stepping.proofs.unreachable.Reads as unreachable-reads
 use Rattle.transitions.proofs.lay.Reads as lay-reads
@@ -46,8 +46,8 @@ ref-word-at-requires : tie.Need-ref-word-at-requires
 ref-word-at-requires c κs = search needs
 
 -- src/lib.rt:224:62
-ref-at-requires : tie.Need-ref-at-requires
-ref-at-requires c κs = search needs
+ref-word-at-requires-2 : tie.Need-ref-word-at-requires-2
+ref-word-at-requires-2 c κs = search needs
 
 -- src/lib.rt:224:13
 lay-requires : tie.Need-lay-requires
@@ -74,8 +74,8 @@ b-at-requires-2 : tie.Need-b-at-requires-2
 b-at-requires-2 c κs = search needs
 
 -- src/lib.rt:227:83
-ref-at-requires-2 : tie.Need-ref-at-requires-2
-ref-at-requires-2 c κs = search needs
+ref-word-at-requires-3 : tie.Need-ref-word-at-requires-3
+ref-word-at-requires-3 c κs = search needs
 
 -- src/lib.rt:227:14
 put-requires : tie.Need-put-requires
@@ -90,12 +90,12 @@ prior-requires-3 : tie.Need-prior-requires-3
 prior-requires-3 c κs = search needs
 
 -- src/lib.rt:231:17
-ref-word-at-requires-2 : tie.Need-ref-word-at-requires-2
-ref-word-at-requires-2 c κs = search needs
+ref-word-at-requires-4 : tie.Need-ref-word-at-requires-4
+ref-word-at-requires-4 c κs = search needs
 
 -- src/lib.rt:232:17
-ref-word-at-requires-3 : tie.Need-ref-word-at-requires-3
-ref-word-at-requires-3 c κs = search needs
+ref-word-at-requires-5 : tie.Need-ref-word-at-requires-5
+ref-word-at-requires-5 c κs = search needs
 
 -- src/lib.rt:233:70
 cast-reach-2 : tie.Need-cast-reach-2
@@ -110,6 +110,12 @@ lay-requires-3 : tie.Need-lay-requires-3
 lay-requires-3 c κs = search needs
 
 -- src/lib.rt:236:43
+mul-t34 : tie.Need-mul-t34
+mul-t34 c = search needs
+
+add-t35 : tie.Need-add-t35
+add-t35 c = search needs
+
 wide-requires : tie.Need-wide-requires
 wide-requires c κs = search needs
 
@@ -146,8 +152,8 @@ unfolding controlIs frameWords block
 returns c s f η K A R e t pass part fit =
     let b = c .before .before .before .before .before .before .before .before .before .before .before in
     let k = sym (c .before .before .before .before .before .before .before .before .kind-at .ensures) ∙ c .before .before .before .before .before .before .before .match .keys1 in
-    rw (form-seq _ _ (b .pre .0 .3) k, ← (c .before .before .before .before .before .before .prior .ensures), ← (c .before .before .before .ref-at .ensures))
-    (c .before .before .lay .ensures s f η (wait (refAt (b .args .part .now) (b .args .i - 1))) K A R e t (rw (c .before .before .before .before .before .ref-word-at .ensures)))
+    rw (form-seq _ _ (b .pre .0 .3) k, ← (c .before .before .before .before .before .before .prior .ensures), ← (c .before .before .before .ref-word-at2 .ensures .1))
+    (c .before .before .lay .ensures s f η (wait (refAt (b .args .part .now) (b .args .i - 1))) K A R e t (rw (c .before .before .before .before .before .ref-word-at .ensures .0)))
 
 -- src/lib.rt:212:1
 same-length-2 : tie.Need-same-length-2
@@ -175,7 +181,7 @@ returns-3 c s f η K A R e t pass part fit =
     let w = form-decl _ _ (b .pre .0 .3) k in
     let x = decl-variable s pass f η K A _ _ _ fit (rw part at w) in
     let y : c .before .before .before .before .b-at2 .result < length η = rw (c .before .before .before .before .b-at2 .ensures, part) x in
-    rw (w, ← (c .before .before .before .ref-at2 .ensures), ← (c .before .before .before .before .b-at2 .ensures))
+    rw (w, ← (c .before .before .before .ref-word-at3 .ensures .1), ← (c .before .before .before .before .b-at2 .ensures))
     (c .before .before .put .ensures s f η K A R e t y (variables-few s pass _ f η K A fit))
 
 -- src/lib.rt:212:1
@@ -190,15 +196,15 @@ returns-4 c s f η K A R e t pass part fit =
     let k = sym (c .before .before .before .before .before .before .before .before .before .before .kind-at .ensures) ∙ c .before .before .before .before .before .before .before .before .before .match .keys4 in
     rw (form-if _ _ (b .pre .0 .3) k _ (c .before .before .before .before .before .before .before .before .prior2 .ensures), ← part, ← (c .before .before .before .before .before .before .before .prior3 .ensures), ← (c .before .before .before .reach2 .ensures))
     (c .before .before .lay3 .ensures s f η (branch (refAt (b .args .part .now) (c .before .before .before .before .before .before .before .before .prior2 .result)) (refAt (b .args .part .now) (b .args .i - 1))) K A R e t
-    (rw (c .before .before .before .before .before .before .ref-word-at2 .ensures, c .before .before .before .before .before .ref-word-at3 .ensures)))
+    (rw (c .before .before .before .before .before .before .ref-word-at4 .ensures .0, c .before .before .before .before .before .ref-word-at5 .ensures .0)))
 
 -- src/lib.rt:212:1
 returns-5 : tie.Need-returns-5
-unfolding controlIs refIs
+unfolding controlIs refWord
 returns-5 c s f η K A R e t pass part fit =
     let b = c .before .before .before .before in
     let k = sym (c .before .kind-at .ensures) ∙ c .match .keys5 in
-    rw (form-while _ _ (b .pre .0 .3) k) (on s _ _ _ _ R f η K A e t (b .pre .0 .0 .1) (b .pre .0 .0 .2))
+    rw (form-while _ _ (b .pre .0 .3) k) (on-is s _ _ _ _ R _ f η η K A (ap exec (ref-back (ifOf (b .args .i)))) refl e t (b .pre .0 .0 .1) (b .pre .0 .0 .2))
 
 -- src/lib.rt:212:1
 same-length-5 : tie.Need-same-length-5
@@ -224,22 +230,24 @@ execute-node-spec =
     kind-at-requires
     prior-requires
     ref-word-at-requires
-    ref-at-requires
+    ref-word-at-requires-2
     lay-requires
     b-at-requires
     cast-reach
     reach-requires
     lay-requires-2
     b-at-requires-2
-    ref-at-requires-2
+    ref-word-at-requires-3
     put-requires
     prior-requires-2
     prior-requires-3
-    ref-word-at-requires-2
-    ref-word-at-requires-3
+    ref-word-at-requires-4
+    ref-word-at-requires-5
     cast-reach-2
     reach-requires-2
     lay-requires-3
+    mul-t34
+    add-t35
     wide-requires
     sub-lay
     cast-reach-3

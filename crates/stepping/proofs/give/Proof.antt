@@ -4,7 +4,8 @@ use native.Mathlib.Omega.{arith}
 use Prim.Native.Nat.{ℕ, _+_, _-_, _≤_, _<_}
 use Rattle.records.specs.Parts.{partOf}
 use Rattle.semantics.specs.Machine.{Rule}
-use Rattle.store.specs.Meaning.{valueIs, refIs, controlIs}
+use Rattle.image.specs.Decode.{refOf}
+use Rattle.store.specs.Meaning.{valueIs, controlIs}
 use Rattle.transitions.proofs.Steps.{counted-under}
 use Rattle.stepping.proofs.Leaves.{pos}
 use Rattle.stepping.proofs.Views.{is-operator, is-call, is-and, is-wait, is-store, is-branch, is-leave, is-assert, is-discard}
@@ -67,7 +68,7 @@ same-length c = search needs
 
 -- src/lib.rt:278:17
 returns : tie.Need-returns
-unfolding controlIs refIs valueIs
+unfolding controlIs refOf valueIs
 returns c f η fr K A R e t fit =
     let b = c .before .before .before .before .before .before .before .before .before .before .before .before .before .before .before in
     let x = over (b .args .file .now) (b .args .starts .now) (valueIs (b .args .v)) (b .args .h) (b .args .m .now) (b .pre .0) in
@@ -108,7 +109,7 @@ same-length-2 c = search needs
 
 -- src/lib.rt:284:17
 returns-2 : tie.Need-returns-2
-unfolding controlIs refIs valueIs
+unfolding controlIs refOf valueIs
 returns-2 c f η fr K A R e t fit =
     let b = c .before .before .before .before .before .before .before .before .before .before .before .before .before .before .before in
     let x = over (b .args .file .now) (b .args .starts .now) (valueIs (b .args .v)) (b .args .h) (b .args .m .now) (b .pre .0) in
@@ -218,7 +219,7 @@ same-length-3 c = search needs
 
 -- src/lib.rt:269:1
 returns-3 : tie.Need-returns-3
-unfolding controlIs refIs valueIs
+unfolding controlIs refOf valueIs
 returns-3 c f η fr K A R e t fit =
     let b = c .before .before .before .before .before .before .before .before .before .before .before .before .before .before .before in
     let x = over (b .args .file .now) (b .args .starts .now) (valueIs (b .args .v)) (b .args .h) (b .args .m .now) (b .pre .0) in
@@ -232,7 +233,7 @@ same-length-4 c = search needs
 
 -- src/lib.rt:269:1
 returns-4 : tie.Need-returns-4
-unfolding controlIs refIs valueIs
+unfolding controlIs refOf valueIs
 returns-4 c f η fr K A R e t fit =
     let b = c .before .before .before .before .before .before .before .before .before .before .before .before .before .before .before in
     let x = over (b .args .file .now) (b .args .starts .now) (valueIs (b .args .v)) (b .args .h) (b .args .m .now) (b .pre .0) in
@@ -246,7 +247,7 @@ same-length-5 c = search needs
 
 -- src/lib.rt:269:1
 returns-5 : tie.Need-returns-5
-unfolding controlIs refIs valueIs
+unfolding controlIs refOf valueIs
 returns-5 c f η fr K A R e t fit =
     let b = c .before .before .before .before .before .before .before .before .before .before .before .before .before .before .before in
     let x = over (b .args .file .now) (b .args .starts .now) (valueIs (b .args .v)) (b .args .h) (b .args .m .now) (b .pre .0) in
@@ -260,7 +261,7 @@ same-length-6 c = search needs
 
 -- src/lib.rt:269:1
 returns-6 : tie.Need-returns-6
-unfolding controlIs refIs valueIs
+unfolding controlIs refOf valueIs
 returns-6 c f η fr K A R e t fit =
     let b = c .before .before .before .before .before .before .before .before .before .before in
     let x = over (b .args .file .now) (b .args .starts .now) (valueIs (b .args .v)) (b .args .h) (b .args .m .now) (b .pre .0) in
@@ -274,7 +275,7 @@ same-length-7 c = search needs
 
 -- src/lib.rt:269:1
 returns-7 : tie.Need-returns-7
-unfolding controlIs refIs valueIs
+unfolding controlIs refOf valueIs
 returns-7 c f η fr K A R e t fit =
     let b = c .before .before .before .before .before .before .before .before .before .before .before .before .before .before in
     let x = over (b .args .file .now) (b .args .starts .now) (valueIs (b .args .v)) (b .args .h) (b .args .m .now) (b .pre .0) in
@@ -288,7 +289,7 @@ same-length-8 c = search needs
 
 -- src/lib.rt:269:1
 returns-8 : tie.Need-returns-8
-unfolding controlIs refIs valueIs
+unfolding controlIs refOf valueIs
 returns-8 c f η fr K A R e t fit =
     let b = c .before .before .before .before .before .before .before .before .before .before .before .before .before .before in
     let x = over (b .args .file .now) (b .args .starts .now) (valueIs (b .args .v)) (b .args .h) (b .args .m .now) (b .pre .0) in
@@ -302,7 +303,7 @@ same-length-9 c = search needs
 
 -- src/lib.rt:269:1
 returns-9 : tie.Need-returns-9
-unfolding controlIs refIs valueIs
+unfolding controlIs refOf valueIs
 returns-9 c f η fr K A R e t fit =
     let b = c .before .before .before .before .before .before .before .before .before .before .before .before .before in
     let x = over (b .args .file .now) (b .args .starts .now) (valueIs (b .args .v)) (b .args .h) (b .args .m .now) (b .pre .0) in
@@ -316,7 +317,7 @@ same-length-10 c = search needs
 
 -- src/lib.rt:269:1
 returns-10 : tie.Need-returns-10
-unfolding controlIs refIs valueIs
+unfolding controlIs refOf valueIs
 returns-10 c f η fr K A R e t fit =
     let b = c .before .before .before .before .before .before .before .before .before .before .before .before .before in
     let x = over (b .args .file .now) (b .args .starts .now) (valueIs (b .args .v)) (b .args .h) (b .args .m .now) (b .pre .0) in
@@ -330,7 +331,7 @@ same-length-11 c = search needs
 
 -- src/lib.rt:269:1
 returns-11 : tie.Need-returns-11
-unfolding controlIs refIs valueIs
+unfolding controlIs refOf valueIs
 returns-11 c f η fr K A R e t fit =
     let b = c .before .before .before .before .before .before .before .before .before .before .before .before .before in
     let x = over (b .args .file .now) (b .args .starts .now) (valueIs (b .args .v)) (b .args .h) (b .args .m .now) (b .pre .0) in

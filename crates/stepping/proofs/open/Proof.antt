@@ -9,7 +9,7 @@ use Rattle.image.specs.Layout.{frameWords, block}
 use Rattle.records.specs.Fields.{sizeAt, bAt, kindAt}
 use Rattle.store.specs.Meaning.{controlIs}
 use Rattle.image.proofs.Operands.{waiting-words}
-use Rattle.transitions.proofs.Steps.{on}
+use Rattle.transitions.proofs.Entries.{on-is}
 use Rattle.stepping.proofs.Levels.{some-walk, look-operator, arity-operator, arity-and}
 use Rattle.stepping.proofs.Facts.{variables-few, reads-variable, call-params}
 use Rattle.stepping.proofs.Opens.{variable-done, gather-done, and-done}
@@ -47,6 +47,9 @@ variable-requires : tie.Need-variable-requires
 variable-requires c κs = let q = c .before .before .before .before .before .before .before .pre in (q .0 .0, q .0 .1, rw (c .before .b-at .ensures) (q .2 .variable (sym (c .before .before .before .kind-at .ensures) ∙ c .before .before .match .keys1)))
 
 -- src/lib.rt:180:54
+at-hand-requires : tie.Need-at-hand-requires
+at-hand-requires c κs = search needs
+
 a-at-requires : tie.Need-a-at-requires
 a-at-requires c κs = search needs
 
@@ -100,14 +103,13 @@ same-length c = search needs
 
 -- src/lib.rt:167:1
 returns : tie.Need-returns
-unfolding controlIs
 returns c f η K A R e t pass part fit =
-    let b = c .before .before .before .before .before .before .before .before in
-    let k = sym (c .before .before .before .before .kind-at .ensures) ∙ c .before .before .before .match .keys1 in
+    let b = c .before .before .before .before .before .before .before .before .before in
+    let k = sym (c .before .before .before .before .before .kind-at .ensures) ∙ c .before .before .before .before .match .keys1 in
     let x = reads-variable _ pass f η K A _ fit (rw part at k) in
-    let y : c .before .before .b-at .result < length η = rw (c .before .before .b-at .ensures, part) x in
-    variable-done _ _ _ _ _ R f η K A _ _ k (c .variable .ensures f η K A R e (t .callers) y (variables-few _ pass _ f η K A fit) ∙ rw (c .before .before .b-at .ensures))
-    (on _ _ _ _ _ R f η K A e t (b .pre .0 .1) (b .pre .0 .2))
+    let y : c .before .before .before .b-at .result < length η = rw (c .before .before .before .b-at .ensures, part) x in
+    variable-done _ _ _ _ _ R f η K A _ _ k (c .before .variable .ensures f η K A R e (t .callers) y (variables-few _ pass _ f η K A fit) ∙ rw (c .before .before .before .b-at .ensures))
+    (on-is _ _ _ _ _ R _ f η η K A (c .at-hand .ensures) refl e t (b .pre .0 .1) (b .pre .0 .2))
 
 -- src/lib.rt:167:1
 same-length-2 : tie.Need-same-length-2
@@ -156,6 +158,7 @@ open-spec =
     b-at-requires
     cast-x
     variable-requires
+    at-hand-requires
     a-at-requires
     wide-requires
     sub-gather

@@ -1,6 +1,9 @@
-use mathlib.Core.Path.{sym, _∙_}
+use mathlib.Core.Path.{refl}
 use borrow.Author.Tests.{ne-eqb}
 use Rattle.image.specs.Layout.{refWord}
+use Rattle.image.specs.Decode.{refOf}
+use Rattle.image.proofs.Parts.{ref-back}
+use Rattle.semantics.specs.Program.{node}
 use Rattle.semantics.specs.File.{refAt}
 use borrow.Author.Needs.{needs}
 use Rattle.stepping.proofs.ref_word_at.Statement.{statement}
@@ -27,13 +30,13 @@ add-result c = search needs
 
 -- src/lib.rt:141:1
 returns : tie.Need-returns
-unfolding refWord refAt
-returns c = rw (← (c .before .kind-at .ensures), c .if1 .taken)
+unfolding refWord refAt refOf
+returns c = rw (← (c .before .kind-at .ensures), c .if1 .taken) (refl, refl)
 
 -- src/lib.rt:141:1
 returns-2 : tie.Need-returns-2
 unfolding refWord refAt
-returns-2 c = rw (← (c .before .kind-at .ensures), ne-eqb _ 6 (c .if1 .left))
+returns-2 c = rw (← (c .before .kind-at .ensures), ne-eqb _ 6 (c .if1 .left)) (refl, ref-back (node _))
 
 pub ref-word-at-spec : {M : Type 1} → statement M
 ref-word-at-spec =

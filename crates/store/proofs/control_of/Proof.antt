@@ -1,33 +1,30 @@
 use borrow.Author.Tests.{ne-eqb}
 use Rattle.image.specs.Decode.{controlOf}
-use Rattle.store.specs.Meaning.{controlIs, valueIs}
+use Rattle.store.specs.Meaning.{controlIs}
 use borrow.Author.Needs.{needs}
 use Rattle.store.proofs.control_of.Statement.{statement}
 use Rattle.store.proofs.control_of.Tie as tie
 
-ref-of-requires : tie.Need-ref-of-requires
-ref-of-requires c κs = search needs
-
 returns : tie.Need-returns
-unfolding controlIs valueIs controlOf
+unfolding controlIs controlOf
 returns c = rw (c .match .keys1)
 
 returns-2 : tie.Need-returns-2
-unfolding controlIs valueIs controlOf
+unfolding controlIs controlOf
 returns-2 c = rw (c .match .keys2)
 
 returns-3 : tie.Need-returns-3
-unfolding controlIs valueIs controlOf
+unfolding controlIs controlOf
 returns-3 c = rw (c .match .keys3)
 
 returns-4 : tie.Need-returns-4
-unfolding controlIs valueIs controlOf
+unfolding controlIs controlOf
 returns-4 c = rw (c .match .keys4)
 
 returns-5 : tie.Need-returns-5
 unfolding controlIs controlOf
-returns-5 c = rw (ne-eqb _ 1 (c .before .match .rest .0 .0 .0 .1), ne-eqb _ 2 (c .before .match .rest .0 .0 .1), ne-eqb _ 3 (c .before .match .rest .0 .1), ne-eqb _ 4 (c .before .match .rest .1), c .ref-of .ensures)
+returns-5 c = rw (ne-eqb _ 1 (c .match .rest .0 .0 .0 .1), ne-eqb _ 2 (c .match .rest .0 .0 .1), ne-eqb _ 3 (c .match .rest .0 .1), ne-eqb _ 4 (c .match .rest .1))
 
 pub control-of-spec : {M : Type 1} → statement M
 control-of-spec =
-    tie.close (tie.spec ref-of-requires returns returns-2 returns-3 returns-4 returns-5)
+    tie.close (tie.spec returns returns-2 returns-3 returns-4 returns-5)

@@ -1,7 +1,6 @@
 use Rattle.image.specs.Decode.{refOf}
-use borrow.Author.Tests.{ne-eqb}
 use native.Mathlib.Omega.{arith}
-use Rattle.store.proofs.Refs.{ref-above}
+use Rattle.store.proofs.Refs.{ref-node, ref-if, ref-seq}
 use Rattle.store.specs.Meaning.{refIs}
 use borrow.Author.Needs.{needs}
 use Rattle.store.proofs.ref_of.Statement.{statement}
@@ -19,15 +18,15 @@ sub-form c = search needs
 
 returns-2 : tie.Need-returns-2
 unfolding refIs
-returns-2 c = rw (ref-above (c .before .before .args .word) (omega arith), c .match .keys1)
+returns-2 c = rw (ref-node (c .before .before .args .word) (omega arith) (c .match .keys1))
 
 returns-3 : tie.Need-returns-3
 unfolding refIs
-returns-3 c = rw (ref-above (c .before .before .args .word) (omega arith), c .match .keys2)
+returns-3 c = rw (ref-if (c .before .before .args .word) (omega arith) (c .match .keys2))
 
 returns-4 : tie.Need-returns-4
 unfolding refIs
-returns-4 c = rw (ref-above (c .before .before .args .word) (omega arith), ne-eqb _ 0 (c .match .rest .0 .1), ne-eqb _ 1 (c .match .rest .1))
+returns-4 c = rw (ref-seq (c .before .before .args .word) (omega arith) (c .match .rest .0 .1) (c .match .rest .1))
 
 pub ref-of-spec : {M : Type 1} → statement M
 ref-of-spec = tie.close (tie.spec returns sub-n sub-form returns-2 returns-3 returns-4)

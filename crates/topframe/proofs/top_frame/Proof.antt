@@ -6,7 +6,6 @@ use Rattle.topframe.proofs.top_frame.Statement.{statement}
 use Rattle.topframe.proofs.top_frame.Tie as tie
 use Rattle.topframe.proofs.top_frame.Reads as reads
 use Rattle.topframe.proofs.top_frame.Lts as lts
-use Rattle.store.proofs.ref_of.Reads as ref-of-reads
 
 -- src/lib.rt:37:21
 mul-at : tie.Need-mul-at
@@ -72,18 +71,6 @@ mul-t19 c = search needs
 shared-slice-read-t21 : tie.Need-shared-slice-read-t21
 shared-slice-read-t21 c = search needs
 
--- src/lib.rt:45:24
-ref-of-requires : tie.Need-ref-of-requires
-ref-of-requires c κs = search needs
-
--- src/lib.rt:47:26
-ref-of-requires-2 : tie.Need-ref-of-requires-2
-ref-of-requires-2 c κs = search needs
-
--- src/lib.rt:47:44
-ref-of-requires-3 : tie.Need-ref-of-requires-3
-ref-of-requires-3 c κs = search needs
-
 -- src/lib.rt:33:1
 returns : tie.Need-returns
 unfolding Shows
@@ -102,7 +89,7 @@ returns-3 c f η fr K A R e few n = let s = seen _ _ f η fr K A R e few n in sa
 -- src/lib.rt:33:1
 returns-4 : tie.Need-returns-4
 unfolding Shows
-returns-4 c f η fr K A R e few n = let s = seen _ _ f η fr K A R e few n in said _ _ fr s 4 (c .before .match .keys4) ∙ rw (c .ref-of .ensures, s .first)
+returns-4 c f η fr K A R e few n = let s = seen _ _ f η fr K A R e few n in said _ _ fr s 4 (c .match .keys4) ∙ rw (s .first)
 
 -- src/lib.rt:33:1
 returns-5 : tie.Need-returns-5
@@ -112,7 +99,7 @@ returns-5 c f η fr K A R e few n = let s = seen _ _ f η fr K A R e few n in sa
 -- src/lib.rt:33:1
 returns-6 : tie.Need-returns-6
 unfolding Shows
-returns-6 c f η fr K A R e few n = let s = seen _ _ f η fr K A R e few n in said _ _ fr s 6 (c .before .before .match .keys6) ∙ rw (c .before .ref-of2 .ensures, c .ref-of3 .ensures, s .first, s .second)
+returns-6 c f η fr K A R e few n = let s = seen _ _ f η fr K A R e few n in said _ _ fr s 6 (c .match .keys6) ∙ rw (s .first, s .second)
 
 -- src/lib.rt:33:1
 returns-7 : tie.Need-returns-7
@@ -152,9 +139,6 @@ top-frame-spec =
     add-t18
     mul-t19
     shared-slice-read-t21
-    ref-of-requires
-    ref-of-requires-2
-    ref-of-requires-3
     returns
     returns-2
     returns-3

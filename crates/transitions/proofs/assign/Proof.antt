@@ -5,7 +5,8 @@ use mathlib.Core.Path.{refl, _∙_, sym}
 use mathlib.Core.List.{_∷_}
 use native.Mathlib.Omega.{arith}
 use Rattle.transitions.proofs.Steps.{counted, counted-under, on, moved, full}
-use Rattle.store.specs.Meaning.{refIs, controlIs}
+use Rattle.image.specs.Decode.{refOf}
+use Rattle.store.specs.Meaning.{controlIs}
 use borrow.Author.Needs.{needs}
 use Rattle.transitions.proofs.assign.Statement.{statement}
 use Rattle.transitions.proofs.assign.Tie as tie
@@ -28,7 +29,7 @@ same-length c = search needs
 
 -- src/lib.rt:95:1
 returns : tie.Need-returns
-unfolding controlIs refIs
+unfolding controlIs refOf
 returns c s f η fr K A R e t x w =
     let q = c .before .before .before .before .before .before .before .before .before .pre in
     rebased s _ _ _ _ R _ (within-yes (exec Ref.nop) calm f η K A (omega (arith, t .callers, q .0 .1)) (omega (arith, t .frames, t .under, q .0 .2)))
