@@ -3,3 +3,4 @@ pub mod Words
 pub mod Values
 pub mod Lists
 pub mod Rests
+mod Filling

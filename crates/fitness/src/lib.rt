@@ -16,7 +16,7 @@ use store::Control;
 use store::control_of;
 use varset::VarSet;
 ghost use mathlib.Core.Path.{_≡_};
-ghost use mathlib.Core.Bool.{_&&_};
+ghost use mathlib.Core.Bool.{true, _&&_};
 ghost use mathlib.Core.List.{List, _++_};
 ghost use Prim.Native.Nat.{ℕ, _+_, _*_, _≤_, _<_};
 ghost use lib.Dec.{eqb};
@@ -24,7 +24,7 @@ ghost use lib.ListN.{length, getD};
 ghost use Rattle.varset.specs.Lowest.{pick};
 ghost use Rattle.varset.specs.Sets.{has, with};
 ghost use Rattle.records.specs.Fields.{functions, varsOf, countOf};
-ghost use Rattle.records.specs.Parts.{Laid};
+ghost use Rattle.records.specs.Parts.{partOf, Laid};
 ghost use Rattle.words.specs.Stacks.{entries};
 ghost use Rattle.words.specs.Segments.{total};
 ghost use Rattle.language.specs.Check.{accepted, checkOf};
@@ -37,7 +37,8 @@ ghost use Rattle.semantics.specs.Test.{hold, holds, fit};
 ghost use Rattle.image.specs.Image.{image};
 ghost use Rattle.image.specs.Decode.{valueOf, frameOf, framesHeld};
 ghost use Rattle.image.specs.Narrow.{Narrow};
-ghost use Rattle.tables.specs.Tables.{Tabled};
+ghost use Rattle.store.specs.Meaning.{activationAt};
+ghost use Rattle.tables.specs.Tables.{Filled, Tabled};
 ghost use Rattle.nodefacts.specs.Part.{Part};
 ghost use Rattle.fitness.specs.Held.{Held};
 ghost use Rattle.fitness.specs.Activations.{framesFit, activationFit, callersFit};
@@ -168,13 +169,14 @@ fn activation_in(
     frames_fit(file, f, part, n, &decls, table, m, low, k, down)
 }
 
-// The same, with a table that is filled for it.
+// The same, with a table that is filled for it unless it is that of the function already.
 fn activation_with(
     file: &[u8],
     f: usize,
     part: &[u8],
     n: usize,
     table: &mut [u64],
+    last: usize,
     m: &[u32],
     a: usize,
     v: u32,
@@ -182,10 +184,14 @@ fn activation_with(
     k: usize,
     over: Over,
 ) -> bool
-    requires part { ⌜ Part (now file) f (now part) n × (5 * n ≤ length (now table)) ⌝ }
+    requires part { ⌜ Part (now file) f (now part) n × (5 * n ≤ length (now table)) × (last ≡ f → Filled (now part) (now table) n) ⌝ }
     requires room { ⌜ (16384 ≤ length (now m)) × (a < 32) × (v ≡ varsOf (now file) f) × (v ≤ 64) × (low + k ≤ 512) ⌝ }
     ensures { λ r. ⌜ r ≡ (holds (variablesIn (now (m .entry)) a v) (varTypes (programOf (now (file .entry)) .fun f)) && framesFit (programOf (now (file .entry))) f (held (variablesIn (now (m .entry)) a v)) (overIs over) (entries 20 frameOf (now (m .entry)) (4480 + low * 20) k)) ⌝ }
+    ensures filled { λ _. ⌜ Filled (now (part .entry)) (now (table .exit)) n ⌝ }
 {
+    if last == f {
+        return activation_in(file, f, part, n, table, m, a, v, low, k, over);
+    }
     tables::fill(file, f, part, n, table);
     activation_in(file, f, part, n, table, m, a, v, low, k, over)
 }
@@ -195,14 +201,16 @@ fn activation_fits(
     file: &[u8],
     starts: &[usize; 128],
     table: &mut [u64],
+    last: usize,
     m: &[u32],
     a: usize,
     high: usize,
     over: Over,
 ) -> bool
     requires file { ⌜ (checkOf (now file) ≡ accepted) × Starts (now file) (now starts) ⌝ }
-    requires room { ⌜ (16384 ≤ length (now m)) × (a < 32) × (framesHeld (activationIn (now m) a) ≤ high) × (high ≤ 512) × ((g : ℕ) → g < functions (now file) → 5 * countOf (now file) g ≤ length (now table)) ⌝ }
+    requires room { ⌜ (16384 ≤ length (now m)) × (a < 32) × (framesHeld (activationIn (now m) a) ≤ high) × (high ≤ 512) × ((g : ℕ) → g < functions (now file) → 5 * countOf (now file) g ≤ length (now table)) × (last < functions (now file) → Filled (partOf (now file) last) (now table) (countOf (now file) last)) ⌝ }
     ensures { λ r. ⌜ r ≡ activationFit (programOf (now (file .entry))) (overIs over) (activationIn (now (m .entry)) a) (framesTo (now (m .entry)) high) ⌝ }
+    ensures filled { λ r. ⌜ ((g : ℕ) → g ≡ getD (now (m .entry)) (activationAt a + 0) 0 → r ≡ true → Filled (partOf (now (file .entry)) g) (now (table .exit)) (countOf (now (file .entry)) g)) ⌝ }
 {
     let f = activation_word(m, a, 0) as usize;
     let k = activation_word(m, a, 1) as usize;
@@ -223,6 +231,7 @@ fn activation_fits(
         &file[from..end],
         n,
         table,
+        last,
         m,
         a,
         v,
@@ -263,7 +272,7 @@ fn frames_held(m: &[u32], n: usize) -> usize
     sum
 }
 
-// Whether the first n activations are fit as the callers of function f, with the first `high` frames.
+// Whether the first n activations are fit as the callers of function f, whose table it is, with the first `high` frames.
 fn callers_fit(
     file: &[u8],
     starts: &[usize; 128],
@@ -274,7 +283,7 @@ fn callers_fit(
     f: usize,
 ) -> bool
     requires file { ⌜ (checkOf (now file) ≡ accepted) × Starts (now file) (now starts) × (f < functions (now file)) ⌝ }
-    requires room { ⌜ (16384 ≤ length (now m)) × (n ≤ 32) × (high ≡ total framesHeld (activationsTo (now m) n)) × (high ≤ 512) × ((g : ℕ) → g < functions (now file) → 5 * countOf (now file) g ≤ length (now table)) ⌝ }
+    requires room { ⌜ (16384 ≤ length (now m)) × (n ≤ 32) × (high ≡ total framesHeld (activationsTo (now m) n)) × (high ≤ 512) × ((g : ℕ) → g < functions (now file) → 5 * countOf (now file) g ≤ length (now table)) × Filled (partOf (now file) f) (now table) (countOf (now file) f) ⌝ }
     ensures { λ r. ⌜ r ≡ callersFit (programOf (now (file .entry))) f (activationsTo (now (m .entry)) n) (framesTo (now (m .entry)) high) ⌝ }
 {
     let mut a = n;
@@ -283,7 +292,7 @@ fn callers_fit(
     while 0 < a {
         a -= 1;
         let t = result_of(file, g);
-        if !activation_fits(file, starts, table, m, a, top, Over::Calling(t)) {
+        if !activation_fits(file, starts, table, g, m, a, top, Over::Calling(t)) {
             return false;
         }
         g = activation_word(m, a, 0) as usize;
@@ -303,7 +312,7 @@ fn running_fits(file: &[u8], table: &mut [u64], m: &[u32]) -> bool
     let starts = starts_of(file);
     let a = n - 1;
     let c = control_of(m[3], m[4]);
-    if !activation_fits(file, &starts, table, m, a, high, Over::Running(c)) {
+    if !activation_fits(file, &starts, table, 128, m, a, high, Over::Running(c)) {
         return false;
     }
     let f = activation_word(m, a, 0) as usize;

@@ -1,4 +1,7 @@
 use mathlib.Core.Path.{sym, _∙_}
+use mathlib.Core.Bool.{false≢true}
+use Rattle.nodefacts.specs.Part.{Part}
+use Rattle.fitness.proofs.Filling.{kept, table-of}
 use native.Mathlib.Omega.{arith}
 use borrow.Author.Tests.{lt-ltb, le-ltb}
 use Rattle.records.proofs.Parts.{part-taken, part-fits}
@@ -31,7 +34,7 @@ function-count-requires c κs = omega (arith, laid (c .before .before .before .b
 
 returns : tie.Need-returns
 unfolding programOf
-returns c = let a = c .before .before .before .before .before .before .before .before .args in sym (activation-unknown (programOf (a .file .now)) (overIs (a .over)) (a .m .now) (a .a) (a .high) (c .before .before .before .before .activation-word .result) (c .before .before .before .activation-word2 .result) (c .before .before .activation-word3 .result) (c .before .before .before .before .activation-word .ensures) (c .before .before .before .activation-word2 .ensures) (c .before .before .activation-word3 .ensures) (le-ltb _ _ (rw (c .before .function-count .ensures .0) at (c .if1 .taken))))
+returns c = let a = c .before .before .before .before .before .before .before .before .args in (sym (activation-unknown (programOf (a .file .now)) (overIs (a .over)) (a .m .now) (a .a) (a .high) (c .before .before .before .before .activation-word .result) (c .before .before .before .activation-word2 .result) (c .before .before .activation-word3 .result) (c .before .before .before .before .activation-word .ensures) (c .before .before .before .activation-word2 .ensures) (c .before .before .activation-word3 .ensures) (le-ltb _ _ (rw (c .before .function-count .ensures .0) at (c .if1 .taken)))), λ g e z. absurd (false≢true z))
 
 vars-of-requires : tie.Need-vars-of-requires
 vars-of-requires c κs = record-in (c .before .before .before .before .before .before .before .before .args .file .now) (c .before .before .before .before .before .before .before .before .pre .0 .0) (c .before .before .before .before .activation-word .result) (rw (c .before .function-count .ensures .0) at (c .if1 .left))
@@ -40,7 +43,7 @@ wide-requires : tie.Need-wide-requires
 wide-requires c κs = search needs
 
 returns-2 : tie.Need-returns-2
-returns-2 c = let a = c .before .before .before .before .before .before .before .before .before .before .before .args in sym (activation-wrong (programOf (a .file .now)) (overIs (a .over)) (a .m .now) (a .a) (a .high) (c .before .before .before .before .before .before .before .activation-word .result) (c .before .before .before .before .before .before .activation-word2 .result) (c .before .before .before .before .before .activation-word3 .result) (c .before .before .before .before .before .before .before .activation-word .ensures) (c .before .before .before .before .before .before .activation-word2 .ensures) (c .before .before .before .before .before .activation-word3 .ensures) (holds-count (a .file .now) (c .before .before .before .before .before .before .before .before .before .before .before .pre .0 .0) (c .before .before .before .before .before .before .before .activation-word .result) (rw (c .before .before .before .before .function-count .ensures .0) at (c .before .before .before .if1 .left)) (a .m .now) (a .a) (c .before .before .before .before .before .activation-word3 .result) (λ e. c .if2 .taken (e ∙ sym (c .before .wide .ensures .0 ∙ c .before .before .vars-of .ensures)))))
+returns-2 c = let a = c .before .before .before .before .before .before .before .before .before .before .before .args in (sym (activation-wrong (programOf (a .file .now)) (overIs (a .over)) (a .m .now) (a .a) (a .high) (c .before .before .before .before .before .before .before .activation-word .result) (c .before .before .before .before .before .before .activation-word2 .result) (c .before .before .before .before .before .activation-word3 .result) (c .before .before .before .before .before .before .before .activation-word .ensures) (c .before .before .before .before .before .before .activation-word2 .ensures) (c .before .before .before .before .before .activation-word3 .ensures) (holds-count (a .file .now) (c .before .before .before .before .before .before .before .before .before .before .before .pre .0 .0) (c .before .before .before .before .before .before .before .activation-word .result) (rw (c .before .before .before .before .function-count .ensures .0) at (c .before .before .before .if1 .left)) (a .m .now) (a .a) (c .before .before .before .before .before .activation-word3 .result) (λ e. c .if2 .taken (e ∙ sym (c .before .wide .ensures .0 ∙ c .before .before .vars-of .ensures))))), λ g e z. absurd (false≢true z))
 
 count-of-requires : tie.Need-count-of-requires
 count-of-requires c κs = record-in (c .before .before .before .before .before .before .before .before .before .before .before .args .file .now) (c .before .before .before .before .before .before .before .before .before .before .before .pre .0 .0) (c .before .before .before .before .before .before .before .activation-word .result) (rw (c .before .before .before .before .function-count .ensures .0) at (c .before .before .before .if1 .left))
@@ -73,14 +76,14 @@ sub-activation-with-2 : tie.Need-sub-activation-with-2
 sub-activation-with-2 c = omega (arith, c .before .before .before .before .before .before .before .before .before .before .before .before .before .before .before .pre .1 .2, frames-of (c .before .before .before .before .before .before .before .before .before .before .before .before .before .before .before .args .m .now) (c .before .before .before .before .before .before .before .before .before .before .before .before .before .before .before .args .a) (c .before .before .before .before .before .before .before .before .before .before .activation-word2 .result) (c .before .before .before .before .before .before .before .before .before .before .activation-word2 .ensures))
 
 activation-with-requires : tie.Need-activation-with-requires
-activation-with-requires c κs = let a = c .before .before .before .before .before .before .before .before .before .before .before .before .before .before .before .args in let g = c .before .before .before .before .before .before .before .before .before .before .before .activation-word .result in ((record { passed = c .before .before .before .before .before .before .before .before .before .before .before .before .before .before .before .pre .0 .0; known = rw (c .before .before .before .before .before .before .before .before .function-count .ensures .0) at (c .before .before .before .before .before .before .before .if1 .left); part = part-taken (a .file .now) g (c .before .before .before .before .before .before .before .before .before .before .before .before .before .before .before .pre .0 .1 g (rw (c .before .before .before .before .before .before .before .before .function-count .ensures .0) at (c .before .before .before .before .before .before .before .if1 .left))) (c .before .before .before .count-of .ensures .0); count = c .before .before .before .count-of .ensures .0 }, rw (c .before .before .before .count-of .ensures .0) (c .before .before .before .before .before .before .before .before .before .before .before .before .before .before .before .pre .1 .4 g (rw (c .before .before .before .before .before .before .before .before .function-count .ensures .0) at (c .before .before .before .before .before .before .before .if1 .left)))), (c .before .before .before .before .before .before .before .before .before .before .before .before .before .before .before .pre .1 .0, c .before .before .before .before .before .before .before .before .before .before .before .before .before .before .before .pre .1 .1, c .before .before .before .before .if2 .left ∙ (c .before .before .before .before .before .wide .ensures .0 ∙ c .before .before .before .before .before .before .vars-of .ensures), omega (arith, c .before .before .before .before .if2 .left, c .before .before .before .before .before .wide .ensures .0, c .before .before .before .before .before .before .vars-of .ensures, laid (a .file .now) (c .before .before .before .before .before .before .before .before .before .before .before .before .before .before .before .pre .0 .0) .vars g (rw (c .before .before .before .before .before .before .before .before .function-count .ensures .0) at (c .before .before .before .before .before .before .before .if1 .left))), omega (arith, c .before .before .before .before .before .before .before .before .before .before .before .before .before .before .before .pre .1 .2, c .before .before .before .before .before .before .before .before .before .before .before .before .before .before .before .pre .1 .3, frames-of (a .m .now) (a .a) (c .before .before .before .before .before .before .before .before .before .before .activation-word2 .result) (c .before .before .before .before .before .before .before .before .before .before .activation-word2 .ensures))))
+activation-with-requires c κs = let a = c .before .before .before .before .before .before .before .before .before .before .before .before .before .before .before .args in let g = c .before .before .before .before .before .before .before .before .before .before .before .activation-word .result in let p : Part (a .file .now) g _ _ = record { passed = c .before .before .before .before .before .before .before .before .before .before .before .before .before .before .before .pre .0 .0; known = rw (c .before .before .before .before .before .before .before .before .function-count .ensures .0) at (c .before .before .before .before .before .before .before .if1 .left); part = part-taken (a .file .now) g (c .before .before .before .before .before .before .before .before .before .before .before .before .before .before .before .pre .0 .1 g (rw (c .before .before .before .before .before .before .before .before .function-count .ensures .0) at (c .before .before .before .before .before .before .before .if1 .left))) (c .before .before .before .count-of .ensures .0); count = c .before .before .before .count-of .ensures .0 } in ((p, rw (c .before .before .before .count-of .ensures .0) (c .before .before .before .before .before .before .before .before .before .before .before .before .before .before .before .pre .1 .4 g (rw (c .before .before .before .before .before .before .before .before .function-count .ensures .0) at (c .before .before .before .before .before .before .before .if1 .left))), kept _ _ _ _ _ p _ (c .before .before .before .before .before .before .before .before .before .before .before .before .before .before .before .pre .1 .5)), (c .before .before .before .before .before .before .before .before .before .before .before .before .before .before .before .pre .1 .0, c .before .before .before .before .before .before .before .before .before .before .before .before .before .before .before .pre .1 .1, c .before .before .before .before .if2 .left ∙ (c .before .before .before .before .before .wide .ensures .0 ∙ c .before .before .before .before .before .before .vars-of .ensures), omega (arith, c .before .before .before .before .if2 .left, c .before .before .before .before .before .wide .ensures .0, c .before .before .before .before .before .before .vars-of .ensures, laid (a .file .now) (c .before .before .before .before .before .before .before .before .before .before .before .before .before .before .before .pre .0 .0) .vars g (rw (c .before .before .before .before .before .before .before .before .function-count .ensures .0) at (c .before .before .before .before .before .before .before .if1 .left))), omega (arith, c .before .before .before .before .before .before .before .before .before .before .before .before .before .before .before .pre .1 .2, c .before .before .before .before .before .before .before .before .before .before .before .before .before .before .before .pre .1 .3, frames-of (a .m .now) (a .a) (c .before .before .before .before .before .before .before .before .before .before .activation-word2 .result) (c .before .before .before .before .before .before .before .before .before .before .activation-word2 .ensures))))
 
 same-length : tie.Need-same-length
 same-length c = search needs
 
 returns-3 : tie.Need-returns-3
 unfolding programOf
-returns-3 c = let a = c .before .before .before .before .before .before .before .before .before .before .before .before .before .before .before .before .before .before .args in c .before .before .activation-with .ensures ∙ sym (activation-whole (programOf (a .file .now)) (overIs (a .over)) (a .m .now) (a .a) (a .high) (c .before .before .before .before .before .before .before .before .before .before .before .before .before .before .activation-word .result) (c .before .before .before .before .before .before .before .before .before .before .before .before .before .activation-word2 .result) (c .before .before .before .before .before .before .before .before .before .before .before .before .activation-word3 .result) (c .before .before .before .before .before .before .before .before .before .before .before .before .before .before .activation-word .ensures) (c .before .before .before .before .before .before .before .before .before .before .before .before .before .activation-word2 .ensures) (c .before .before .before .before .before .before .before .before .before .before .before .before .activation-word3 .ensures) (lt-ltb _ _ (rw (c .before .before .before .before .before .before .before .before .before .before .before .function-count .ensures .0) at (c .before .before .before .before .before .before .before .before .before .before .if1 .left))) (omega (arith, c .before .before .before .before .before .before .before .before .before .before .before .before .before .before .before .before .before .before .pre .1 .2, frames-of (a .m .now) (a .a) (c .before .before .before .before .before .before .before .before .before .before .before .before .before .activation-word2 .result) (c .before .before .before .before .before .before .before .before .before .before .before .before .before .activation-word2 .ensures))))
+returns-3 c = let a = c .before .before .before .before .before .before .before .before .before .before .before .before .before .before .before .before .before .before .args in (c .before .before .activation-with .ensures .0 ∙ sym (activation-whole (programOf (a .file .now)) (overIs (a .over)) (a .m .now) (a .a) (a .high) (c .before .before .before .before .before .before .before .before .before .before .before .before .before .before .activation-word .result) (c .before .before .before .before .before .before .before .before .before .before .before .before .before .activation-word2 .result) (c .before .before .before .before .before .before .before .before .before .before .before .before .activation-word3 .result) (c .before .before .before .before .before .before .before .before .before .before .before .before .before .before .activation-word .ensures) (c .before .before .before .before .before .before .before .before .before .before .before .before .before .activation-word2 .ensures) (c .before .before .before .before .before .before .before .before .before .before .before .before .activation-word3 .ensures) (lt-ltb _ _ (rw (c .before .before .before .before .before .before .before .before .before .before .before .function-count .ensures .0) at (c .before .before .before .before .before .before .before .before .before .before .if1 .left))) (omega (arith, c .before .before .before .before .before .before .before .before .before .before .before .before .before .before .before .before .before .before .pre .1 .2, frames-of (a .m .now) (a .a) (c .before .before .before .before .before .before .before .before .before .before .before .before .before .activation-word2 .result) (c .before .before .before .before .before .before .before .before .before .before .before .before .before .activation-word2 .ensures)))), λ g e z. table-of (a .file .now) _ _ (c .before .before .before .before .before .before .before .before .before .before .before .before .before .before .activation-word .result) _ (record { passed = c .before .before .before .before .before .before .before .before .before .before .before .before .before .before .before .before .before .before .pre .0 .0; known = rw (c .before .before .before .before .before .before .before .before .before .before .before .function-count .ensures .0) at (c .before .before .before .before .before .before .before .before .before .before .if1 .left); part = part-taken (a .file .now) (c .before .before .before .before .before .before .before .before .before .before .before .before .before .before .activation-word .result) (c .before .before .before .before .before .before .before .before .before .before .before .before .before .before .before .before .before .before .pre .0 .1 (c .before .before .before .before .before .before .before .before .before .before .before .before .before .before .activation-word .result) (rw (c .before .before .before .before .before .before .before .before .before .before .before .function-count .ensures .0) at (c .before .before .before .before .before .before .before .before .before .before .if1 .left))) (c .before .before .before .before .before .before .count-of .ensures .0); count = c .before .before .before .before .before .before .count-of .ensures .0 }) g (e ∙ sym (c .before .before .before .before .before .before .before .before .before .before .before .before .before .before .activation-word .ensures)) (c .before .before .activation-with .ensures .1))
 
 pub activation-fits-spec : {M : Type 1} → statement M
 activation-fits-spec =

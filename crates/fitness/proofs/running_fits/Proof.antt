@@ -59,7 +59,7 @@ control-of-requires c κs = search needs
 -- src/lib.rt:308:9
 activation-fits-requires : tie.Need-activation-fits-requires
 unfolding activationsIn
-activation-fits-requires c κs = let a = c .before .before .before .before .before .before .before .before .before .before .before .args in let o = some (a .m .now) (c .before .before .before .before .before .before .before .before .before .before .before .pre .0 .2) (c .before .before .before .before .before .before .before .before .before .before .before .pre .0 .3) in ((c .before .before .before .before .before .before .before .before .before .before .before .pre .0 .0, c .before .before .before .before .before .starts-of .ensures), (c .before .before .before .before .before .before .before .before .before .before .before .pre .0 .1, omega (arith, few (a .m .now) (c .before .before .before .before .before .before .before .before .before .before .before .pre .0 .2), o), omega (arith, c .before .before .before .before .before .before .frames-held .ensures, held-last (a .m .now) (getD (a .m .now) 2 0) o), omega (arith, c .before .before .before .before .before .before .frames-held .ensures, fewer (a .m .now) (c .before .before .before .before .before .before .before .before .before .before .before .pre .0 .2)), c .before .before .before .before .before .before .before .before .before .before .before .pre .1))
+activation-fits-requires c κs = let a = c .before .before .before .before .before .before .before .before .before .before .before .args in let o = some (a .m .now) (c .before .before .before .before .before .before .before .before .before .before .before .pre .0 .2) (c .before .before .before .before .before .before .before .before .before .before .before .pre .0 .3) in ((c .before .before .before .before .before .before .before .before .before .before .before .pre .0 .0, c .before .before .before .before .before .starts-of .ensures), (c .before .before .before .before .before .before .before .before .before .before .before .pre .0 .1, omega (arith, few (a .m .now) (c .before .before .before .before .before .before .before .before .before .before .before .pre .0 .2), o), omega (arith, c .before .before .before .before .before .before .frames-held .ensures, held-last (a .m .now) (getD (a .m .now) 2 0) o), omega (arith, c .before .before .before .before .before .before .frames-held .ensures, fewer (a .m .now) (c .before .before .before .before .before .before .before .before .before .before .before .pre .0 .2)), c .before .before .before .before .before .before .before .before .before .before .before .pre .1, λ q. absurd (omega (arith, q, laid (a .file .now) (c .before .before .before .before .before .before .before .before .before .before .before .pre .0 .0) .few))))
 
 -- src/lib.rt:309:9
 same-length : tie.Need-same-length
@@ -68,7 +68,7 @@ same-length c = search needs
 -- src/lib.rt:309:9
 returns : tie.Need-returns
 unfolding overIs
-returns c = let a = c .before .before .before .before .before .before .before .before .before .before .before .before .before .before .before .args in λ s R e w n. sym (fits-less (programOf (a .file .now)) (a .m .now) s R e w n (λ i. c .before .before .before .before .before .before .before .before .before .before .before .before .shared-slice-known2 .given i .fits) (c .before .before .before .before .before .before .before .before .before .before .before .before .before .before .before .pre .0 .3) (controlIs (c .before .before .before .before .before .before .control-of .result)) (c .before .before .before .before .before .before .before .before .before .before .frames-held .result) (c .before .before .before .before .before .before .control-of .ensures) (c .before .before .before .before .before .before .before .before .before .before .frames-held .ensures) (some (a .m .now) (c .before .before .before .before .before .before .before .before .before .before .before .before .before .before .before .pre .0 .2) (c .before .before .before .before .before .before .before .before .before .before .before .before .before .before .before .pre .0 .3)) (sym (c .before .before .before .activation-fits .ensures) ∙ not-true _ (c .if1 .taken)))
+returns c = let a = c .before .before .before .before .before .before .before .before .before .before .before .before .before .before .before .args in λ s R e w n. sym (fits-less (programOf (a .file .now)) (a .m .now) s R e w n (λ i. c .before .before .before .before .before .before .before .before .before .before .before .before .shared-slice-known2 .given i .fits) (c .before .before .before .before .before .before .before .before .before .before .before .before .before .before .before .pre .0 .3) (controlIs (c .before .before .before .before .before .before .control-of .result)) (c .before .before .before .before .before .before .before .before .before .before .frames-held .result) (c .before .before .before .before .before .before .control-of .ensures) (c .before .before .before .before .before .before .before .before .before .before .frames-held .ensures) (some (a .m .now) (c .before .before .before .before .before .before .before .before .before .before .before .before .before .before .before .pre .0 .2) (c .before .before .before .before .before .before .before .before .before .before .before .before .before .before .before .pre .0 .3)) (sym (c .before .before .before .activation-fits .ensures .0) ∙ not-true _ (c .if1 .taken)))
 
 -- src/lib.rt:311:13
 activation-word-requires : tie.Need-activation-word-requires
@@ -93,7 +93,7 @@ sub-callers-fit c = let a = c .before .before .before .before .before .before .b
 -- src/lib.rt:313:5
 callers-fit-requires : tie.Need-callers-fit-requires
 unfolding programOf overIs activationsIn
-callers-fit-requires c κs = let a = c .before .before .before .before .before .before .before .before .before .before .before .before .before .before .before .before .before .before .before .args in let o = some (a .m .now) (c .before .before .before .before .before .before .before .before .before .before .before .before .before .before .before .before .before .before .before .pre .0 .2) (c .before .before .before .before .before .before .before .before .before .before .before .before .before .before .before .before .before .before .before .pre .0 .3) in let t = total-last (a .m .now) (getD (a .m .now) 2 0) (c .before .before .activation-word2 .result) o (c .before .before .activation-word2 .ensures) in ((c .before .before .before .before .before .before .before .before .before .before .before .before .before .before .before .before .before .before .before .pre .0 .0, c .before .before .before .before .before .before .before .before .before .before .before .before .before .starts-of .ensures, ltb-true _ _ (fit-known (programOf (a .file .now)) (at (controlIs (c .before .before .before .before .before .before .before .before .before .before .control-of .result))) (a .m .now) (getD (a .m .now) 2 0 - 1) (framesTo (a .m .now) (c .before .before .before .before .before .before .before .before .before .before .before .before .before .before .frames-held .result)) (c .before .before .before .activation-word .result) (c .before .before .before .activation-word .ensures) (sym (c .before .before .before .before .before .before .before .activation-fits .ensures) ∙ not-false _ (c .before .before .before .before .if1 .left)))), (c .before .before .before .before .before .before .before .before .before .before .before .before .before .before .before .before .before .before .before .pre .0 .1, omega (arith, few (a .m .now) (c .before .before .before .before .before .before .before .before .before .before .before .before .before .before .before .before .before .before .before .pre .0 .2)), omega (arith, c .before .before .before .before .before .before .before .before .before .before .before .before .before .before .frames-held .ensures, t), omega (arith, c .before .before .before .before .before .before .before .before .before .before .before .before .before .before .frames-held .ensures, fewer (a .m .now) (c .before .before .before .before .before .before .before .before .before .before .before .before .before .before .before .before .before .before .before .pre .0 .2)), λ h q. rw (c .before .before .before .before .before .before .before .activation-fits .kept .1 .1 .0) (c .before .before .before .before .before .before .before .before .before .before .before .before .before .before .before .before .before .before .before .pre .1 h q)))
+callers-fit-requires c κs = let a = c .before .before .before .before .before .before .before .before .before .before .before .before .before .before .before .before .before .before .before .args in let o = some (a .m .now) (c .before .before .before .before .before .before .before .before .before .before .before .before .before .before .before .before .before .before .before .pre .0 .2) (c .before .before .before .before .before .before .before .before .before .before .before .before .before .before .before .before .before .before .before .pre .0 .3) in let t = total-last (a .m .now) (getD (a .m .now) 2 0) (c .before .before .activation-word2 .result) o (c .before .before .activation-word2 .ensures) in ((c .before .before .before .before .before .before .before .before .before .before .before .before .before .before .before .before .before .before .before .pre .0 .0, c .before .before .before .before .before .before .before .before .before .before .before .before .before .starts-of .ensures, ltb-true _ _ (fit-known (programOf (a .file .now)) (at (controlIs (c .before .before .before .before .before .before .before .before .before .before .control-of .result))) (a .m .now) (getD (a .m .now) 2 0 - 1) (framesTo (a .m .now) (c .before .before .before .before .before .before .before .before .before .before .before .before .before .before .frames-held .result)) (c .before .before .before .activation-word .result) (c .before .before .before .activation-word .ensures) (sym (c .before .before .before .before .before .before .before .activation-fits .ensures .0) ∙ not-false _ (c .before .before .before .before .if1 .left)))), (c .before .before .before .before .before .before .before .before .before .before .before .before .before .before .before .before .before .before .before .pre .0 .1, omega (arith, few (a .m .now) (c .before .before .before .before .before .before .before .before .before .before .before .before .before .before .before .before .before .before .before .pre .0 .2)), omega (arith, c .before .before .before .before .before .before .before .before .before .before .before .before .before .before .frames-held .ensures, t), omega (arith, c .before .before .before .before .before .before .before .before .before .before .before .before .before .before .frames-held .ensures, fewer (a .m .now) (c .before .before .before .before .before .before .before .before .before .before .before .before .before .before .before .before .before .before .before .pre .0 .2)), λ h q. rw (c .before .before .before .before .before .before .before .activation-fits .kept .1 .1 .0) (c .before .before .before .before .before .before .before .before .before .before .before .before .before .before .before .before .before .before .before .pre .1 h q), c .before .before .before .before .before .before .before .activation-fits .ensures .1 _ (c .before .before .before .activation-word .ensures) (not-false _ (c .before .before .before .before .if1 .left))))
 
 -- src/lib.rt:298:1
 same-length-2 : tie.Need-same-length-2
@@ -102,7 +102,7 @@ same-length-2 c = search needs
 -- src/lib.rt:298:1
 returns-2 : tie.Need-returns-2
 unfolding overIs
-returns-2 c = let a = c .before .before .before .before .before .before .before .before .before .before .before .before .before .before .before .before .before .before .before .before .before .before .args in λ s R e w n. let o = some (a .m .now) (c .before .before .before .before .before .before .before .before .before .before .before .before .before .before .before .before .before .before .before .before .before .before .pre .0 .2) (c .before .before .before .before .before .before .before .before .before .before .before .before .before .before .before .before .before .before .before .before .before .before .pre .0 .3) in c .before .before .callers-fit .ensures ∙ sym (fits-more (programOf (a .file .now)) (a .m .now) s R e w n (λ i. c .before .before .before .before .before .before .before .before .before .before .before .before .before .before .before .before .before .before .before .shared-slice-known2 .given i .fits) (c .before .before .before .before .before .before .before .before .before .before .before .before .before .before .before .before .before .before .before .before .before .before .pre .0 .3) (controlIs (c .before .before .before .before .before .before .before .before .before .before .before .before .before .control-of .result)) (c .before .before .before .before .before .before .before .before .before .before .before .before .before .before .before .before .before .frames-held .result) (c .before .before .before .before .before .before .before .before .before .before .before .before .before .control-of .ensures) (c .before .before .before .before .before .before .before .before .before .before .before .before .before .before .before .before .before .frames-held .ensures) o (c .before .before .before .before .before .before .activation-word .result) (c .before .before .before .before .before .activation-word2 .result) (c .before .before .before .before .before .before .activation-word .ensures) (c .before .before .before .before .before .activation-word2 .ensures) (omega (arith, c .before .before .before .before .before .before .before .before .before .before .before .before .before .before .before .before .before .frames-held .ensures, total-last (a .m .now) (getD (a .m .now) 2 0) (c .before .before .before .before .before .activation-word2 .result) o (c .before .before .before .before .before .activation-word2 .ensures))) (sym (c .before .before .before .before .before .before .before .before .before .before .activation-fits .ensures) ∙ not-false _ (c .before .before .before .before .before .before .before .if1 .left)))
+returns-2 c = let a = c .before .before .before .before .before .before .before .before .before .before .before .before .before .before .before .before .before .before .before .before .before .before .args in λ s R e w n. let o = some (a .m .now) (c .before .before .before .before .before .before .before .before .before .before .before .before .before .before .before .before .before .before .before .before .before .before .pre .0 .2) (c .before .before .before .before .before .before .before .before .before .before .before .before .before .before .before .before .before .before .before .before .before .before .pre .0 .3) in c .before .before .callers-fit .ensures ∙ sym (fits-more (programOf (a .file .now)) (a .m .now) s R e w n (λ i. c .before .before .before .before .before .before .before .before .before .before .before .before .before .before .before .before .before .before .before .shared-slice-known2 .given i .fits) (c .before .before .before .before .before .before .before .before .before .before .before .before .before .before .before .before .before .before .before .before .before .before .pre .0 .3) (controlIs (c .before .before .before .before .before .before .before .before .before .before .before .before .before .control-of .result)) (c .before .before .before .before .before .before .before .before .before .before .before .before .before .before .before .before .before .frames-held .result) (c .before .before .before .before .before .before .before .before .before .before .before .before .before .control-of .ensures) (c .before .before .before .before .before .before .before .before .before .before .before .before .before .before .before .before .before .frames-held .ensures) o (c .before .before .before .before .before .before .activation-word .result) (c .before .before .before .before .before .activation-word2 .result) (c .before .before .before .before .before .before .activation-word .ensures) (c .before .before .before .before .before .activation-word2 .ensures) (omega (arith, c .before .before .before .before .before .before .before .before .before .before .before .before .before .before .before .before .before .frames-held .ensures, total-last (a .m .now) (getD (a .m .now) 2 0) (c .before .before .before .before .before .activation-word2 .result) o (c .before .before .before .before .before .activation-word2 .ensures))) (sym (c .before .before .before .before .before .before .before .before .before .before .activation-fits .ensures .0) ∙ not-false _ (c .before .before .before .before .before .before .before .if1 .left)))
 
 pub running-fits-spec : {M : Type 1} → statement M
 running-fits-spec =
