@@ -8,6 +8,7 @@ use Rattle.records.specs.Bytes.{u16At, u32At}
 use Rattle.records.specs.Fields.{markAt, functions, nodes, resultOf, paramsOf, varsOf, maskOf, countOf, kindAt, aAt, bAt, sizeAt}
 use Rattle.records.specs.Parts.{sumOf, startOf, partOf}
 use Rattle.records.specs.Search.{firstOf, shift, orElse, firstIn, unless}
+use Rattle.records.specs.Build.{header, function, node, alone}
 use Rattle.records.specs.Children.{arities, arityOf, arityAt, walk, children}
 use Rattle.language.specs.Sorts.{differ, isExpression, wantsExpression, wrongSort}
 use Rattle.language.specs.Statements.{prior, last, shapes, shapeAt, readsFrom, readsOf, grow, statementIn, statementAt}
@@ -17,20 +18,6 @@ use Rattle.language.specs.Types.{paramType, varType, operatorType, types
 use Rattle.language.specs.Records.{within, lengthOk, headerOk, recordsOk, functionOk, sumOk, mainOk}
 use Rattle.language.specs.Nodes.{fields, fieldsOk, nodeOk, total, sizeOk, wrongChild, some, misplaced, undeclared, firstUndeclared, outside, mistyped, answers}
 use Rattle.language.specs.Check.{Verdict, accepted, refused, originOf, inPart, partQuestions, questions, refuse, put, checkOf}
-
--- a file: its header, its functions with their nodes
-abbrev header : ℕ → ℕ → List ℕ
-header F N = 80 ∷ 82 ∷ F ∷ 0 ∷ N ∷ 0 ∷ 0 ∷ 0 ∷ 0 ∷ 0 ∷ 0 ∷ 0 ∷ []
-
-abbrev function : ℕ → ℕ → ℕ → ℕ → ℕ → List ℕ
-function result p v mask count = 70 ∷ 78 ∷ result ∷ p ∷ v ∷ mask ∷ 0 ∷ 0 ∷ count ∷ 0 ∷ 0 ∷ 0 ∷ []
-
-abbrev node : ℕ → ℕ → ℕ → ℕ → List ℕ
-node kind a b size = 78 ∷ 68 ∷ kind ∷ a ∷ b ∷ 0 ∷ 0 ∷ 0 ∷ size ∷ 0 ∷ 0 ∷ 0 ∷ []
-
--- a file of main alone, with v variables
-abbrev main : ℕ → ℕ → List ℕ → List ℕ
-main v count body = header 1 count ++ (function 1 0 v 0 count ++ body)
 
 -- a file, and what the check says of it
 pub data Row : Type 0 where
@@ -44,21 +31,6 @@ verdictOf (row s v) = v
 
 abbrev rows : List Row
 rows =
-    -- return 0
-    row (main 0 2 (node 0 0 0 1 ++ node 12 0 0 2)) accepted
-    ∷
-    -- return ((4+5)×10)+2
-    row (main 0 8 (node 0 0 4 1 ++ node 0 0 5 1 ++ node 3 0 0 3 ++ node 0 0 10 1 ++ node 3 2 0 5 ++ node 0 0 2 1 ++ node 3 0 0 7 ++ node 12 0 0 8)) accepted
-    ∷
-    -- nop
-    row (main 0 1 (node 6 0 0 1)) (refused 14 1 0)
-    ∷
-    -- decl(0, int, return var 0)
-    row (main 1 3 (node 2 0 0 1 ++ node 12 0 0 2 ++ node 9 1 0 3)) (refused 13 2 0)
-    ∷
-    -- decl(0, int, seq(if(true, return 1, assign(0, 2)), return var 0))
-    row (main 1 10 (node 1 0 1 1 ++ node 0 0 1 1 ++ node 12 0 0 2 ++ node 0 0 2 1 ++ node 8 0 0 2 ++ node 10 0 0 6 ++ node 2 0 0 1 ++ node 12 0 0 2 ++ node 7 0 0 9 ++ node 9 1 0 10)) (refused 13 8 0)
-    ∷
     -- no byte
     row ([]) (refused 1 0 0)
     ∷
@@ -69,7 +41,7 @@ rows =
     row (80 ∷ 82 ∷ 1 ∷ 0 ∷ 1 ∷ 0 ∷ 0 ∷ 0 ∷ 0 ∷ 0 ∷ 0 ∷ 1 ∷ (function 1 0 0 0 1 ++ node 6 0 0 1)) (refused 2 0 0)
     ∷
     -- a record too many
-    row (main 0 2 (node 0 0 0 1 ++ node 12 0 0 2 ++ node 6 0 0 1)) (refused 3 0 0)
+    row (alone 0 2 (node 0 0 0 1 ++ node 12 0 0 2 ++ node 6 0 0 1)) (refused 3 0 0)
     ∷
     -- a mask bit for no parameter
     row (header 1 2 ++ (function 1 0 0 2 2 ++ (node 0 0 0 1 ++ node 12 0 0 2))) (refused 4 1 0)
@@ -84,70 +56,70 @@ rows =
     row (header 1 2 ++ (function 2 0 0 0 2 ++ (node 1 0 0 1 ++ node 12 0 0 2))) (refused 6 1 0)
     ∷
     -- an int with a set, and a size that is wrong before it
-    row (main 0 3 (node 6 0 0 7 ++ (node 0 1 0 1 ++ node 12 0 0 2))) (refused 7 3 0)
+    row (alone 0 3 (node 6 0 0 7 ++ (node 0 1 0 1 ++ node 12 0 0 2))) (refused 7 3 0)
     ∷
     -- nop, 0, return 0 without a seq
-    row (main 0 3 (node 6 0 0 1 ++ (node 0 0 0 1 ++ node 12 0 0 2))) (refused 8 4 0)
+    row (alone 0 3 (node 6 0 0 1 ++ (node 0 0 0 1 ++ node 12 0 0 2))) (refused 8 4 0)
     ∷
     -- an operator whose left operand would lie in the part before
     row (header 2 5 ++ (function 1 0 0 0 2 ++ (function 1 0 0 0 3 ++ (node 0 0 0 1 ++ (node 12 0 0 2 ++ (node 0 0 2 1 ++ (node 3 0 0 4 ++ node 12 0 0 5))))))) (refused 8 6 0)
     ∷
     -- a leaf of size 0
-    row (main 0 2 (node 0 0 0 0 ++ node 12 0 0 2)) (refused 8 2 0)
+    row (alone 0 2 (node 0 0 0 0 ++ node 12 0 0 2)) (refused 8 2 0)
     ∷
     -- seq(1, seq(assert(nop), return(0)))
-    row (main 0 7 (node 0 0 1 1 ++ node 6 0 0 1 ++ node 13 0 0 2 ++ node 0 0 0 1 ++ node 12 0 0 2 ++ node 7 0 0 5 ++ node 7 0 0 7)) (refused 9 2 0)
+    row (alone 0 7 (node 0 0 1 1 ++ node 6 0 0 1 ++ node 13 0 0 2 ++ node 0 0 0 1 ++ node 12 0 0 2 ++ node 7 0 0 5 ++ node 7 0 0 7)) (refused 9 2 0)
     ∷
     -- a body that is an int
-    row (main 0 1 (node 0 0 3 1)) (refused 9 2 0)
+    row (alone 0 1 (node 0 0 3 1)) (refused 9 2 0)
     ∷
     -- three decls of one variable
-    row (main 1 5 (node 0 0 0 1 ++ node 12 0 0 2 ++ node 9 1 0 3 ++ node 9 1 0 4 ++ node 9 1 0 5)) (refused 10 1 0)
+    row (alone 1 5 (node 0 0 0 1 ++ node 12 0 0 2 ++ node 9 1 0 3 ++ node 9 1 0 4 ++ node 9 1 0 5)) (refused 10 1 0)
     ∷
     -- variables 0 and 2 declared, 1 not
-    row (main 3 4 (node 0 0 0 1 ++ node 12 0 0 2 ++ node 9 1 2 3 ++ node 9 1 0 4)) (refused 10 1 1)
+    row (alone 3 4 (node 0 0 0 1 ++ node 12 0 0 2 ++ node 9 1 2 3 ++ node 9 1 0 4)) (refused 10 1 1)
     ∷
     -- a condition outside the decl in the body
-    row (main 1 9 (node 2 0 0 1 ++ node 0 0 0 1 ++ node 3 14 0 3 ++ node 6 0 0 1 ++ node 9 1 0 2 ++ node 11 0 0 6 ++ node 0 0 0 1 ++ node 12 0 0 2 ++ node 7 0 0 9)) (refused 11 2 0)
+    row (alone 1 9 (node 2 0 0 1 ++ node 0 0 0 1 ++ node 3 14 0 3 ++ node 6 0 0 1 ++ node 9 1 0 2 ++ node 11 0 0 6 ++ node 0 0 0 1 ++ node 12 0 0 2 ++ node 7 0 0 9)) (refused 11 2 0)
     ∷
     -- an assign outside the decl
-    row (main 1 9 (node 0 0 1 1 ++ node 8 0 0 2 ++ node 9 1 0 3 ++ node 0 0 2 1 ++ node 8 0 0 2 ++ node 2 0 0 1 ++ node 12 0 0 2 ++ node 7 0 0 5 ++ node 7 0 0 9)) (refused 11 6 0)
+    row (alone 1 9 (node 0 0 1 1 ++ node 8 0 0 2 ++ node 9 1 0 3 ++ node 0 0 2 1 ++ node 8 0 0 2 ++ node 2 0 0 1 ++ node 12 0 0 2 ++ node 7 0 0 5 ++ node 7 0 0 9)) (refused 11 6 0)
     ∷
     -- ==(true, true)
-    row (main 0 7 (node 1 0 1 1 ++ node 1 0 1 1 ++ node 3 14 0 3 ++ node 14 0 0 4 ++ node 0 0 0 1 ++ node 12 0 0 2 ++ node 7 0 0 7)) (refused 12 4 0)
+    row (alone 0 7 (node 1 0 1 1 ++ node 1 0 1 1 ++ node 3 14 0 3 ++ node 14 0 0 4 ++ node 0 0 0 1 ++ node 12 0 0 2 ++ node 7 0 0 7)) (refused 12 4 0)
     ∷
     -- return(nothing) in main
-    row (main 0 2 (node 15 0 0 1 ++ node 12 0 0 2)) (refused 12 3 0)
+    row (alone 0 2 (node 15 0 0 1 ++ node 12 0 0 2)) (refused 12 3 0)
     ∷
     -- a type fault after an empty read
-    row (main 1 8 (node 2 0 0 1 ++ node 8 0 0 2 ++ node 2 0 0 1 ++ node 1 0 1 1 ++ node 3 0 0 3 ++ node 12 0 0 4 ++ node 7 0 0 7 ++ node 9 1 0 8)) (refused 12 6 0)
+    row (alone 1 8 (node 2 0 0 1 ++ node 8 0 0 2 ++ node 2 0 0 1 ++ node 1 0 1 1 ++ node 3 0 0 3 ++ node 12 0 0 4 ++ node 7 0 0 7 ++ node 9 1 0 8)) (refused 12 6 0)
     ∷
     -- any expression as a statement
-    row (main 0 8 (node 15 0 0 1 ++ node 14 0 0 2 ++ node 1 0 1 1 ++ node 14 0 0 2 ++ node 0 0 0 1 ++ node 12 0 0 2 ++ node 7 0 0 5 ++ node 7 0 0 8)) accepted
+    row (alone 0 8 (node 15 0 0 1 ++ node 14 0 0 2 ++ node 1 0 1 1 ++ node 14 0 0 2 ++ node 0 0 0 1 ++ node 12 0 0 2 ++ node 7 0 0 5 ++ node 7 0 0 8)) accepted
     ∷
     -- a read behind &&
-    row (main 1 11 (node 1 0 0 1 ++ node 2 0 0 1 ++ node 0 0 1 1 ++ node 3 14 0 3 ++ node 4 0 0 5 ++ node 0 0 1 1 ++ node 12 0 0 2 ++ node 0 0 2 1 ++ node 12 0 0 2 ++ node 10 0 0 10 ++ node 9 1 0 11)) (refused 13 3 0)
+    row (alone 1 11 (node 1 0 0 1 ++ node 2 0 0 1 ++ node 0 0 1 1 ++ node 3 14 0 3 ++ node 4 0 0 5 ++ node 0 0 1 1 ++ node 12 0 0 2 ++ node 0 0 2 1 ++ node 12 0 0 2 ++ node 10 0 0 10 ++ node 9 1 0 11)) (refused 13 3 0)
     ∷
     -- assign(0, var 0)
-    row (main 1 6 (node 2 0 0 1 ++ node 8 0 0 2 ++ node 0 0 0 1 ++ node 12 0 0 2 ++ node 7 0 0 5 ++ node 9 1 0 6)) (refused 13 2 0)
+    row (alone 1 6 (node 2 0 0 1 ++ node 8 0 0 2 ++ node 0 0 0 1 ++ node 12 0 0 2 ++ node 7 0 0 5 ++ node 9 1 0 6)) (refused 13 2 0)
     ∷
     -- code after a return is judged as if reached
-    row (main 1 6 (node 0 0 1 1 ++ node 12 0 0 2 ++ node 2 0 0 1 ++ node 12 0 0 2 ++ node 7 0 0 5 ++ node 9 1 0 6)) (refused 13 4 0)
+    row (alone 1 6 (node 0 0 1 1 ++ node 12 0 0 2 ++ node 2 0 0 1 ++ node 12 0 0 2 ++ node 7 0 0 5 ++ node 9 1 0 6)) (refused 13 4 0)
     ∷
     -- a loop's assignment does not count for its condition
-    row (main 1 10 (node 2 0 0 1 ++ node 0 0 1 1 ++ node 3 10 0 3 ++ node 0 0 1 1 ++ node 8 0 0 2 ++ node 11 0 0 6 ++ node 0 0 0 1 ++ node 12 0 0 2 ++ node 7 0 0 9 ++ node 9 1 0 10)) (refused 13 2 0)
+    row (alone 1 10 (node 2 0 0 1 ++ node 0 0 1 1 ++ node 3 10 0 3 ++ node 0 0 1 1 ++ node 8 0 0 2 ++ node 11 0 0 6 ++ node 0 0 0 1 ++ node 12 0 0 2 ++ node 7 0 0 9 ++ node 9 1 0 10)) (refused 13 2 0)
     ∷
     -- nor after it
-    row (main 1 8 (node 1 0 1 1 ++ node 0 0 1 1 ++ node 8 0 0 2 ++ node 11 0 0 4 ++ node 2 0 0 1 ++ node 12 0 0 2 ++ node 7 0 0 7 ++ node 9 1 0 8)) (refused 13 6 0)
+    row (alone 1 8 (node 1 0 1 1 ++ node 0 0 1 1 ++ node 8 0 0 2 ++ node 11 0 0 4 ++ node 2 0 0 1 ++ node 12 0 0 2 ++ node 7 0 0 7 ++ node 9 1 0 8)) (refused 13 6 0)
     ∷
     -- both branches assign
-    row (main 1 10 (node 1 0 1 1 ++ node 0 0 1 1 ++ node 8 0 0 2 ++ node 0 0 2 1 ++ node 8 0 0 2 ++ node 10 0 0 6 ++ node 2 0 0 1 ++ node 12 0 0 2 ++ node 7 0 0 9 ++ node 9 1 0 10)) accepted
+    row (alone 1 10 (node 1 0 1 1 ++ node 0 0 1 1 ++ node 8 0 0 2 ++ node 0 0 2 1 ++ node 8 0 0 2 ++ node 10 0 0 6 ++ node 2 0 0 1 ++ node 12 0 0 2 ++ node 7 0 0 9 ++ node 9 1 0 10)) accepted
     ∷
     -- while(true, return(1))
-    row (main 0 4 (node 1 0 1 1 ++ node 0 0 1 1 ++ node 12 0 0 2 ++ node 11 0 0 4)) (refused 14 1 0)
+    row (alone 0 4 (node 1 0 1 1 ++ node 0 0 1 1 ++ node 12 0 0 2 ++ node 11 0 0 4)) (refused 14 1 0)
     ∷
     -- seq(return(1), while(true, nop))
-    row (main 0 6 (node 0 0 1 1 ++ node 12 0 0 2 ++ node 1 0 1 1 ++ node 6 0 0 1 ++ node 11 0 0 3 ++ node 7 0 0 6)) accepted
+    row (alone 0 6 (node 0 0 1 1 ++ node 12 0 0 2 ++ node 1 0 1 1 ++ node 6 0 0 1 ++ node 11 0 0 3 ++ node 7 0 0 6)) accepted
     ∷
     -- a parameter is assigned, and passed
     row (header 2 10 ++ (function 1 0 0 0 3 ++ (function 1 1 1 0 7 ++ (node 0 0 4 1 ++ node 5 1 1 2 ++ node 12 0 0 3 ++ node 2 0 0 1 ++ node 0 0 1 1 ++ node 3 0 0 3 ++ node 8 0 0 4 ++ node 2 0 0 1 ++ node 12 0 0 2 ++ node 7 0 0 7)))) accepted
@@ -156,7 +128,7 @@ rows =
     row (header 2 10 ++ (function 1 0 0 0 3 ++ (function 1 1 1 0 7 ++ (node 1 0 1 1 ++ node 5 1 1 2 ++ node 12 0 0 3 ++ node 2 0 0 1 ++ node 0 0 1 1 ++ node 3 0 0 3 ++ node 8 0 0 4 ++ node 2 0 0 1 ++ node 12 0 0 2 ++ node 7 0 0 7)))) (refused 12 4 0)
     ∷
     -- a call of main
-    row (main 0 2 (node 5 0 0 1 ++ node 12 0 0 2)) accepted
+    row (alone 0 2 (node 5 0 0 1 ++ node 12 0 0 2)) accepted
     ∷ []
 
 -- all rows

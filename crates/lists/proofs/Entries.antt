@@ -12,7 +12,8 @@ use Rattle.semantics.specs.Machine.{State, main, calm}
 use Rattle.semantics.specs.Fit.{Within}
 use Rattle.semantics.specs.Run.{Ran, runOf, lookUp}
 use Rattle.semantics.specs.File.{programOf}
-use Rattle.semantics.proofs.Calls.{Machine, At, CallForm}
+use Rattle.semantics.specs.Calls.{Machine}
+use Rattle.semantics.proofs.Calls.{At, Owes}
 use Rattle.semantics.proofs.Files.{accepted-program}
 use Rattle.semantics.proofs.Words.{file-words}
 use Rattle.semantics.proofs.Runs.{Good, ran}
@@ -24,7 +25,7 @@ use Rattle.image.proofs.Images.{image-length}
 use Rattle.image.proofs.Sized.{file-sized, fit-narrow}
 use Rattle.image.proofs.Memory.{held-length, held-state, whole-held}
 use Rattle.calls.specs.Answers.{given, valueOr, Told, told, turned, answered, written, startAnswer, startMemory, memoryAnswer, runFrom, runAnswer, runMemory, lookVerdict, lookAnswer}
-use Rattle.lists.specs.Forms.{Given, Asking, Form, Input, readsOf, Reply, answerOf, memoryAfter, Passed, Tells, Took, Does}
+use Rattle.lists.specs.Forms.{Given, Asking, Form, Input, readsOf, Reply, answerOf, memoryAfter, Passed, Tells, Took, Does, form}
 use Rattle.lists.specs.Lists.{Image}
 use Rattle.lists.proofs.Questions.{start-so, memory-so, look-so}
 
@@ -141,18 +142,6 @@ module _ (M : List ℕ) where
   owes Form.memory i m σ a t = (σ, refl, a)
   owes Form.look i m σ a t = look-owes i m σ a (tells-is (lookVerdict (i .file .bytes) m (i .number)) (valueOr (lookUp (stateOf m) (i .number))) t)
 
-  -- the four forms, as the theorem over lists takes them
-  abbrev pub form : Form → CallForm (List ℕ) Given (List ℕ) (λ e. e .bytes) programOf (Image M)
-  form k =
-      record {
-        In = Input k;
-        Answer = Reply k;
-        reads = readsOf k;
-        answer = answerOf k;
-        after = memoryAfter k;
-        Took = Took k;
-        took? = took? k;
-        Does = Does k;
-        refused = refusal k;
-        accepted = owes k;
-      }
+  -- what each form owes in a list begun from M
+  abbrev pub owing : (k : Form) → Owes (List ℕ) Given (List ℕ) (λ e. e .bytes) programOf (Image M) (form k)
+  owing k = record { took? = took? k; refused = refusal k; accepted = owes k }

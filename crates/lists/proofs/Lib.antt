@@ -2,3 +2,4 @@ pub mod Questions
 pub mod Entries
 pub mod Lists
 pub mod Samples
+pub mod Table

@@ -8,18 +8,19 @@ use Rattle.language.specs.Check.{accepted, checkOf}
 use Rattle.semantics.specs.Machine.{State, exception, main, returned, running, calm}
 use Rattle.semantics.specs.Fit.{Fit}
 use Rattle.semantics.specs.File.{programOf}
-use Rattle.semantics.proofs.Calls.{Machine, Call, OneFile, Story, whole}
-use Rattle.semantics.proofs.Progress.{One}
+use Rattle.semantics.specs.Applies.{One}
+use Rattle.semantics.specs.Calls.{Machine}
+use Rattle.semantics.proofs.Calls.{whole}
 use Rattle.semantics.proofs.Safety.{starts-fit, one-applies, values-typed}
 use Rattle.image.specs.Image.{image}
 use Rattle.image.specs.Memory.{size, Holds}
 use Rattle.image.proofs.Sized.{file-sized}
 use Rattle.image.proofs.Memory.{held-length, whole-held, holds-fit, fit-holds, one-state}
 use Rattle.calls.specs.Answers.{startMemory, written}
-use Rattle.lists.specs.Forms.{Given, Form}
-use Rattle.lists.specs.Lists.{Begins, by-start, stored, Image, Final, Last}
+use Rattle.lists.specs.Forms.{Given, Form, form}
+use Rattle.lists.specs.Lists.{Begins, by-start, stored, Image, Final, Last, Calls, OneFileIn, StoryOf}
 use Rattle.lists.proofs.Questions.{start-so, memory-so, memory-if}
-use Rattle.lists.proofs.Entries.{Between, form}
+use Rattle.lists.proofs.Entries.{Between, owing}
 
 -- the file that the list begins with is accepted
 begins-checked : (e : Given) {σ : Machine} {m : List ℕ} → Begins e σ m → checkOf (e .bytes) ≡ accepted
@@ -60,24 +61,12 @@ closes M e m σ c a =
       held = a .image;
     }
 
--- calls of the four forms, in a list begun from the memory M
-abbrev pub Calls : List ℕ → Type 0
-Calls M = Call (List ℕ) Given (List ℕ) (λ e. e .bytes) programOf (Image M) Form (form M)
-
--- every accepted call has the file φ, a refused one any
-abbrev pub OneFileIn : (M φ : List ℕ) → List (Calls M) → Type 0
-OneFileIn M φ cs = OneFile (List ℕ) Given (List ℕ) (λ e. e .bytes) programOf (Image M) Form (form M) φ cs M
-
--- the machine call by call, from the state σ, and `Last` at the end
-abbrev pub StoryOf : (M : List ℕ) → List (Calls M) → Given → Machine → Type 0
-StoryOf M cs e σ = Story (List ℕ) Given (List ℕ) (λ e. e .bytes) programOf (Image M) Form (form M) (Last M) cs e M σ
-
 -- demand 3: the machine goes as the calls say, after each call the memory holds its image, and at the end the machine is final or one rule
 -- applies, its values are typed, and the memory passes the memory check
-pub whole-lists : (e : Given) (σ : Machine) (M : List ℕ) → Begins e σ M → (cs : List (Calls M)) → OneFileIn M (e .bytes) cs → StoryOf M cs e σ
+pub whole-lists : (e : Given) (σ : Machine) (M : List ℕ) → Begins e σ M → (cs : List Calls) → OneFileIn M (e .bytes) cs → StoryOf M cs e σ
 whole-lists e σ M b cs one =
     let c = begins-checked e b in
-    whole (List ℕ) Given (List ℕ) (λ d. d .bytes) programOf (Image M) Form (form M) (e .bytes) (Last M)
+    whole (List ℕ) Given (List ℕ) (λ d. d .bytes) programOf (Image M) Form form (owing M) (e .bytes) (Last M)
     (λ d m τ q a. closes M d m τ (rw q c) (rw q a)) cs e M σ refl one (begins-at e b)
 
 -- the state that a list begins with is the one fit state whose image is there

@@ -15,6 +15,8 @@ use Rattle.records.specs.Bytes.{u16At, u32At}
 use Rattle.records.specs.Fields.{markAt, functions, nodes, resultOf, paramsOf, varsOf, maskOf, countOf, kindAt, aAt, bAt, sizeAt}
 use Rattle.records.specs.Parts.{sumOf, startOf, partOf}
 use Rattle.records.specs.Search.{firstOf, shift, orElse, firstIn, unless}
+use Rattle.records.specs.Build.{alone}
+use Rattle.records.specs.Build as build
 use Rattle.records.specs.Children.{arities, arityOf, arityAt, walk, children}
 use Rattle.language.specs.Statements.{prior, last, shapes, shapeAt, readsFrom, readsOf, grow, statementIn, statementAt}
 use Rattle.language.specs.Flow.{declares, leaves, missing, lacks, returns}
@@ -33,20 +35,18 @@ use Rattle.semantics.specs.Program.{Ref, node}
 use Rattle.semantics.specs.Machine.{wait, exec, calm, State, main, running}
 use Rattle.semantics.specs.Run.{Outcome, Spent, runOf}
 use Rattle.semantics.specs.File.{backwards, kids, andOf, looks, lookAt, refAt, formOf, formAt, ifForm, seqForm, seeAt, unrolled, looped, stmtAt, typesFrom, funOf, programOf}
-use Rattle.semantics.proofs.SampleFiles.{header, function}
-use Rattle.semantics.proofs.SampleFiles as files
 use Rattle.image.specs.Layout.{filled, bit, valueWords, valuesWords, nodesWords, refWord, block, gathering, frameWords, controlWords, activationWords}
 use Rattle.image.specs.Image.{savedActivations, savedFrames, headWords, activationsOf, framesOf, image}
 use Rattle.image.specs.Decode.{valueOf, valuesOf, nodesOf, refOf, operands, frames, frameOf, controlOf, activationOf, framesHeld, callersOf, runningOf, activationsIn, framesIn, states, stateOf}
 use Rattle.image.specs.Memory.{fitWords}
 use Rattle.calls.specs.Answers.{roomFor, imageIn, variableIn, startAnswer, memoryAnswer, lookVerdict, told, turned, answered, written, startMemory, runFrom, runAnswer, runMemory, lookAnswer}
 use Rattle.lists.specs.Forms.{Given, Form}
-use Rattle.lists.specs.Lists.{by-start}
-use Rattle.lists.proofs.Lists.{Calls, StoryOf, whole-lists}
+use Rattle.lists.specs.Lists.{by-start, Calls, StoryOf}
+use Rattle.lists.proofs.Lists.{whole-lists}
 
 -- decl#5(0, int, seq#4(assign#1(0, 5#0), return#3(x0#2)))
 abbrev file : List ℕ
-file = header 1 6 ++ function 1 0 1 0 6 ++ files.node 0 0 5 1 ++ files.node 8 0 0 2 ++ files.node 2 0 0 1 ++ files.node 12 0 0 2 ++ files.node 7 0 0 5 ++ files.node 9 1 0 6
+file = alone 1 6 (build.node 0 0 5 1 ++ build.node 8 0 0 2 ++ build.node 2 0 0 1 ++ build.node 12 0 0 2 ++ build.node 7 0 0 5 ++ build.node 9 1 0 6)
 
 -- a memory of other content, one word longer than an image
 abbrev dirty : List ℕ
@@ -86,7 +86,7 @@ abbrev empty : Given
 empty = record { bytes = []; small = small [] refl }
 
 -- a run, a look-up, a refused run with no file, a memory check and a second start as one list, begun from a start: the theorem holds of it
-abbrev calls : List (Calls begun)
+abbrev calls : List Calls
 calls =
     record { kind = Form.run; given = record { file = bytes; number = 5 } }
     ∷ record { kind = Form.look; given = record { file = bytes; number = 0 } }

@@ -10,7 +10,7 @@ use Rattle.semantics.specs.Program.{Program}
 use Rattle.semantics.specs.Machine.{main, calm}
 use Rattle.semantics.specs.Run.{Outcome, RunsTo, Ran, lookUp}
 use Rattle.semantics.specs.File.{programOf}
-use Rattle.semantics.proofs.Calls.{Machine}
+use Rattle.semantics.specs.Calls.{Machine, CallForm}
 use Rattle.calls.specs.Answers.{startAnswer, memoryAnswer, Told, told, turned, startMemory, runAnswer, runMemory, lookAnswer}
 
 -- what a call is given to read beside the memory: a file of bytes
@@ -98,3 +98,8 @@ Does Form.start i a σ τ = (τ .state ≡ main calm) × (τ .history ≡ [])
 Does Form.run i a σ τ = Ends (programOf (i .file .bytes)) (i .number) a σ τ
 Does Form.memory i a σ τ = τ ≡ σ
 Does Form.look i a σ τ = (τ ≡ σ) × Shows (i .number) a σ
+
+-- the four forms, as the statement over lists takes them
+abbrev pub form : Form → CallForm (List ℕ) Given (List ℕ) (λ e. e .bytes)
+form k =
+    record { In = Input k; Answer = Reply k; reads = readsOf k; answer = answerOf k; after = memoryAfter k; Took = Took k; Does = Does k }

@@ -8,13 +8,13 @@ use Rattle.language.specs.Check.{accepted}
 use Rattle.semantics.specs.Machine.{State, exception, main, returned, running, calm}
 use Rattle.semantics.specs.Run.{allHeld}
 use Rattle.semantics.specs.File.{programOf}
-use Rattle.semantics.proofs.Progress.{One}
-use Rattle.semantics.proofs.Typed.{Typed}
-use Rattle.semantics.proofs.Calls.{Machine}
+use Rattle.semantics.specs.Applies.{One}
+use Rattle.semantics.specs.Typed.{Typed}
+use Rattle.semantics.specs.Calls.{Machine, Call, OneFile, Story}
 use Rattle.image.specs.Decode.{stateOf}
 use Rattle.image.specs.Memory.{size, Holds}
 use Rattle.calls.specs.Answers.{startAnswer, memoryAnswer, startMemory}
-use Rattle.lists.specs.Forms.{Given}
+use Rattle.lists.specs.Forms.{Given, Form, form}
 
 -- the list begins with memory that a start wrote over any content M, or that passed the memory check
 pub data Begins (e : Given) : Machine → List ℕ → Type 0 where
@@ -41,3 +41,15 @@ pub record Last (M : List ℕ) (e : Given) (m : List ℕ) (σ : Machine) : Type 
   pub typed : Typed (programOf (e .bytes)) (σ .state)
   pub checked : memoryAnswer (e .bytes) m ≡ accepted
   pub held : Image M (σ .state) m
+
+-- a call of one of the four forms
+abbrev pub Calls : Type 0
+Calls = Call (List ℕ) Given (List ℕ) (λ e. e .bytes) Form form
+
+-- in a list begun from the memory M every accepted call has the file φ, a refused one any
+abbrev pub OneFileIn : (M φ : List ℕ) → List Calls → Type 0
+OneFileIn M φ cs = OneFile (List ℕ) Given (List ℕ) (λ e. e .bytes) Form form φ cs M
+
+-- the machine call by call, from the memory M and the machine σ, and `Last` at the end
+abbrev pub StoryOf : List ℕ → List Calls → Given → Machine → Type 0
+StoryOf M cs e σ = Story (List ℕ) Given (List ℕ) (λ e. e .bytes) Form form (Image M) (Last M) cs e M σ

@@ -1,22 +1,20 @@
 -- The states that a run passes through.
 use mathlib.Core.Path.{_≡_, refl, sym, ap, _∙_}
-use mathlib.Core.Bool.{true, false}
-use mathlib.Core.List.{List, [], _∷_, _++_}
-use Prim.Native.Nat.{ℕ, suc, _+_, _*_, _-_, _^_, _≤_, _<_}
+use mathlib.Core.List.{List, _++_}
+use Prim.Native.Nat.{ℕ, _+_, _-_, _≤_, _<_}
 use native.Mathlib.Omega.{arith}
 use lib.ListN.{length, getD}
 use Rattle.language.specs.Check.{accepted, checkOf}
-use Rattle.records.specs.Parts.{partOf}
 use Rattle.semantics.specs.Values.{Value}
-use Rattle.semantics.specs.Program.{Program}
 use Rattle.semantics.specs.Machine as machine
 use Rattle.semantics.specs.Machine.{Frame, Saved, calm, State, running}
 use Rattle.semantics.specs.Next.{goes, next}
-use Rattle.semantics.specs.Run.{within, runOf}
+use Rattle.semantics.specs.Run.{runOf}
 use Rattle.semantics.specs.Fit.{Fit}
 use Rattle.semantics.specs.File.{programOf}
 use Rattle.semantics.proofs.One.{sound}
-use Rattle.semantics.proofs.Progress.{Applies, progress}
+use Rattle.semantics.specs.Applies.{Applies}
+use Rattle.semantics.proofs.Progress.{progress}
 use Rattle.semantics.proofs.Files.{accepted-program}
 use Rattle.semantics.proofs.Tests.{limits-say}
 use Rattle.semantics.proofs.Safety.{stays-fit}
@@ -33,7 +31,7 @@ use Rattle.stepping.proofs.Given.{limited}
 use Rattle.machine.specs.declared.Outcome.{Outcome}
 use Rattle.machine.specs.declared.Outcome.the-variants as outcome
 use Rattle.machine.specs.Runs.{outcomeOf, Ends}
-use Rattle.machine.proofs.Ending.{ends-step, ends-full, ends-spent, ends-raised}
+use Rattle.machine.proofs.Ending.{ends-step, ends-full, ends-raised}
 
 -- after k steps the run from σ stands here, and ends as the run from here does
 pub record Reached (s : List ℕ) (n d : ℕ) (σ : State) (k : ℕ) (c : code.Control) (h : Head) (m R : List ℕ) : Type 0 where

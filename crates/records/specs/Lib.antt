@@ -3,3 +3,4 @@ pub mod Fields
 pub mod Parts
 pub mod Search
 pub mod Children
+pub mod Build

@@ -1,5 +1,4 @@
 pub mod Accepted
-pub mod Table
 pub mod Holding
 pub mod Operators
 pub mod One
@@ -21,3 +20,4 @@ pub mod Files
 pub mod Safety
 pub mod SampleFiles
 pub mod Samples
+pub mod SampleRuns

@@ -13,21 +13,10 @@ use Rattle.semantics.specs.Machine.{Frame, gather, and, wait, branch, ch
 use Rattle.semantics.specs.Next.{goes, next}
 use Rattle.semantics.specs.Fit.{Running, Proper, Fit}
 use Rattle.semantics.specs.Run.{Going}
+use Rattle.semantics.specs.Applies.{Applies, One}
 use Rattle.semantics.proofs.Accepted.{GoodE, Accepted}
 use Rattle.semantics.proofs.Moves.{seen}
 use Rattle.semantics.proofs.One.{sound, one-rule}
-
--- a rule applies
-pub record Applies (P : Program) (s : State) : Type 0 where
-  pub rule : Rule
-  pub event : Event
-  pub state : State
-  pub step : Step P rule event s state
-
--- it is the only one, in a single way
-pub record One (P : Program) (s : State) : Type 0 where
-  pub some : Applies P s
-  pub only : {r : Rule} {v : Event} {t : State} → Step P r v s t → (r ≡ some .rule) × (t ≡ some .state)
 
 by-step : {P : Program} {s t : State} {r : Rule} {v : Event} → Step P r v s t → Applies P s
 by-step {P} {s} {t} {r} {v} p = record { rule = r; event = v; state = t; step = p }

@@ -8,12 +8,14 @@ use Rattle.semantics.specs.Machine.{State, main, calm, Rule, Event, Step
 use Rattle.semantics.specs.Fit.{Within, Fit}
 use Rattle.semantics.specs.Run.{carry, ReadsHeld, allHeld, Going, runOf}
 use Rattle.semantics.specs.File.{programOf}
+use Rattle.semantics.specs.Applies.{One}
+use Rattle.semantics.specs.Typed.{Typed}
 use Rattle.semantics.proofs.Files.{accepted-program}
 use Rattle.semantics.proofs.Words.{file-words, words-kept}
 use Rattle.semantics.proofs.Keep.{keep}
-use Rattle.semantics.proofs.Progress.{One, exactly-one, final-none, start-fit}
+use Rattle.semantics.proofs.Progress.{exactly-one, final-none, start-fit}
 use Rattle.semantics.proofs.History.{carried, reads-held}
-use Rattle.semantics.proofs.Typed.{Typed, typed}
+use Rattle.semantics.proofs.Typed.{typed}
 use Rattle.semantics.proofs.Runs.{Good, ran}
 
 -- a file is a list of bytes

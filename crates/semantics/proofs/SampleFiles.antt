@@ -1,6 +1,6 @@
 -- Sample files, from their bytes.
 use mathlib.Core.Path.{_≡_, refl}
-use mathlib.Core.List.{List, [], _∷_, _++_}
+use mathlib.Core.List.{List, _++_}
 use Prim.Native.Nat.{ℕ}
 use Rattle.varset.specs.Lowest.{lowest}
 use Rattle.varset.specs.Sets.{has, none, with, without, both, either, less, below}
@@ -8,6 +8,7 @@ use Rattle.records.specs.Bytes.{u16At, u32At}
 use Rattle.records.specs.Fields.{markAt, functions, nodes, resultOf, paramsOf, varsOf, maskOf, countOf, kindAt, aAt, bAt, sizeAt}
 use Rattle.records.specs.Parts.{sumOf, startOf, partOf}
 use Rattle.records.specs.Search.{firstOf, shift, orElse, firstIn, unless}
+use Rattle.records.specs.Build.{header, function, node}
 use Rattle.records.specs.Children.{arities, arityOf, arityAt, walk, children}
 use Rattle.language.specs.Statements.{prior, last, shapes, shapeAt, readsFrom, readsOf, grow, statementIn, statementAt}
 use Rattle.language.specs.Flow.{declares, leaves, missing, lacks, returns}
@@ -17,21 +18,6 @@ use Rattle.language.specs.Sorts.{differ, isExpression, wantsExpression, wrongSo
 use Rattle.language.specs.Records.{within, lengthOk, headerOk, recordsOk, functionOk, sumOk, mainOk}
 use Rattle.language.specs.Nodes.{fields, fieldsOk, nodeOk, total, sizeOk, wrongChild, some, misplaced, undeclared, firstUndeclared, outside, mistyped, answers}
 use Rattle.language.specs.Check.{accepted, originOf, inPart, partQuestions, questions, refuse, put, checkOf}
-use Rattle.arith.specs.Int as ints
-use Rattle.arith.specs.Operators as operators
-use Rattle.semantics.specs.File.{backwards, kids, andOf, looks, lookAt, refAt, formOf, formAt, ifForm, seqForm, seeAt, unrolled, looped, stmtAt, typesFrom, funOf, programOf}
-use Rattle.semantics.specs.Values.{int, result}
-use Rattle.semantics.specs.Machine.{calm, main}
-use Rattle.semantics.specs.Run.{Outcome, runOf}
-
-abbrev pub header : ℕ → ℕ → List ℕ
-header F N = 80 ∷ 82 ∷ F ∷ 0 ∷ N ∷ 0 ∷ 0 ∷ 0 ∷ 0 ∷ 0 ∷ 0 ∷ 0 ∷ []
-
-abbrev pub function : ℕ → ℕ → ℕ → ℕ → ℕ → List ℕ
-function result p v mask count = 70 ∷ 78 ∷ result ∷ p ∷ v ∷ mask ∷ 0 ∷ 0 ∷ count ∷ 0 ∷ 0 ∷ 0 ∷ []
-
-abbrev pub node : ℕ → ℕ → ℕ → ℕ → List ℕ
-node kind a b size = 78 ∷ 68 ∷ kind ∷ a ∷ b ∷ 0 ∷ 0 ∷ 0 ∷ size ∷ 0 ∷ 0 ∷ 0 ∷ []
 
 -- decl#27(0, int, decl#26(1, bool, seq#25(assign#1(0, 1#0), seq#24(assign#3(1, true#2), seq#23(while#13(x1#4, seq#12(assign#6(1, false#5), if#11(x1#7, return#9(3#8), nop#10))),
 -- seq#22(expr#17(f1#16(x0#14, x1#15)), return#21(x0#18 +#20 2#19)))))))
@@ -69,11 +55,7 @@ branches = header 1 10 ++ function 1 0 1 0 10 ++ node 1 0 1 1 ++ node 8 0 0 2 ++
 abbrev pub stale : List ℕ
 stale = header 1 12 ++ function 1 0 1 0 12 ++ node 1 0 1 1 ++ node 2 0 0 1 ++ node 0 0 1 1 ++ node 3 14 0 3 ++ node 13 0 0 4 ++ node 6 0 0 1 ++ node 9 1 0 2 ++ node 7 0 0 7 ++ node 11 0 0 9 ++ node 0 0 0 1 ++ node 12 0 0 2 ++ node 7 0 0 12
 
--- the sample file is accepted, and its run gives 3 after 56 steps
+-- the sample file is accepted
 sample-accepted : checkOf sample ≡ accepted
 unfolding lowest has none with without both either less below u16At u32At markAt functions nodes resultOf paramsOf varsOf maskOf countOf kindAt aAt bAt sizeAt sumOf startOf partOf firstOf shift orElse firstIn unless arities arityOf arityAt walk children differ isExpression wantsExpression wrongSort prior last shapes shapeAt readsFrom readsOf grow statementIn statementAt declares leaves missing lacks returns declaresAt declCount declOf under usesVariable paramType varType operatorType typesOf typeAt condition wantsOf wantAt suits agree within lengthOk headerOk recordsOk functionOk sumOk mainOk fields fieldsOk nodeOk total sizeOk wrongChild some misplaced undeclared firstUndeclared outside mistyped answers originOf inPart partQuestions questions refuse put checkOf
 sample-accepted = refl
-
-sample-run : (runOf (programOf sample) 10000 (main calm) .outcome ≡ Outcome.value 3) × (runOf (programOf sample) 10000 (main calm) .steps ≡ 56)
-unfolding lowest has none with without both either less below u16At u32At markAt functions nodes resultOf paramsOf varsOf maskOf countOf kindAt aAt bAt sizeAt sumOf startOf partOf firstOf shift orElse firstIn unless arities arityOf arityAt walk children prior last shapes shapeAt readsFrom readsOf grow statementIn statementAt declares leaves missing lacks returns declaresAt declCount declOf under usesVariable paramType varType operatorType typesOf typeAt condition wantsOf wantAt suits agree ints.int ints.wrap operators.addOf operators.subOf operators.mulOf operators.quotOf operators.remOf operators.shlOf operators.shrOf operators.andOf operators.orOf operators.xorOf operators.ltOf operators.leOf operators.gtOf operators.geOf operators.eqOf operators.neOf operators.noQuotient operators.divided operators.shifted operators.results operators.applied backwards kids andOf looks lookAt refAt formOf formAt ifForm seqForm seeAt unrolled looped stmtAt typesFrom funOf programOf result runOf
-sample-run = (refl, refl)

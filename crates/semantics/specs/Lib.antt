@@ -6,3 +6,6 @@ pub mod Fit
 pub mod Run
 pub mod Test
 pub mod File
+pub mod Applies
+pub mod Typed
+pub mod Calls

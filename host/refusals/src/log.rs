@@ -1,5 +1,9 @@
 //! What the prover said of an edited crate.
 
+use crate::edit::Law;
+use std::fs;
+use std::path::Path;
+
 /// Words of an error that says that the proof no longer has the form that the code asks for, not that a fact fails.
 const MISFIT: [&str; 6] = [
     "has no `",
@@ -16,11 +20,36 @@ const LOOP: [&str; 2] = [": error: `Inv-", ": error: `μ-"];
 /// Words of an error that only follows from another.
 const FOLLOWS: &str = "was not admitted";
 
+/// Why a wrong definition does not count as refused; none where each law that it is to break does break by itself, on the line that is named.
+pub fn law_objection(log: &str, laws: &[Law], folder: &Path) -> Option<String> {
+    if laws.is_empty() {
+        return Some("it names no law that it breaks".to_string());
+    }
+    laws.iter().find(|law| !breaks(log, law, folder)).map(|law| {
+        format!("{} {} does not break by itself on a line with `{}`", law.file, law.name, law.words)
+    })
+}
+
+/// Whether the prover has an error of a law's own, and no misfit, on a line that has the law's words.
+fn breaks(log: &str, law: &Law, folder: &Path) -> bool {
+    let source = fs::read_to_string(folder.join(&law.file)).unwrap_or_default();
+    let lines: Vec<&str> = source.lines().collect();
+    log.lines().filter(|line| is_error(line)).any(|line| {
+        let (place, said) = line.split_once(": error: ").unwrap_or((line, ""));
+        let mut parts = place.rsplitn(3, ':').skip(1);
+        let number: usize = parts.next().and_then(|part| part.parse().ok()).unwrap_or(0);
+        let file = parts.next().unwrap_or("");
+        file.ends_with(&format!("/{}", law.file))
+            && said.starts_with(&format!("`{}`: ", law.name))
+            && !said.contains(FOLLOWS)
+            && !MISFIT.iter().any(|words| said.contains(words))
+            && number > 0
+            && lines.get(number - 1).is_some_and(|text| text.contains(&law.words))
+    })
+}
+
 /// Why a wrong program does not count as refused; none where a fact of its own function fails.
-pub fn objection(log: &str, function: Option<&str>) -> Option<String> {
-    let Some(function) = function else {
-        return (!log.lines().any(is_error)).then(|| "the prover has no error".to_string());
-    };
+pub fn objection(log: &str, function: &str) -> Option<String> {
     match verdict(log, function) {
         None => return Some(format!("the prover does not speak of {function}")),
         Some(said) if said == "proved" => return Some(format!("{function} is proved")),

@@ -1,4 +1,5 @@
-//! Reads what the prover said of each must-fail edit and holds it to each wrong program: refused in its own function, because a fact fails.
+//! Reads what the prover said of each must-fail edit and holds it to each wrong program: refused in its own function, or in the law that a
+//! wrong definition is to break, because a fact fails.
 //! `refusals ROOT`, after `rt ci` or `rt must-fail` in the repository ROOT.
 
 mod edit;
@@ -32,8 +33,11 @@ fn judge(root: &Path, folder: &Path, edit: &Path) -> io::Result<(usize, Vec<Stri
     let wrong = edit::wrong_programs(&text, &stem(edit));
     let mut objections = Vec::new();
     for program in &wrong {
-        let function = program.function(folder)?;
-        if let Some(reason) = log::objection(&log, function.as_deref()) {
+        let objection = match program.function(folder)? {
+            Some(function) => log::objection(&log, &function),
+            None => log::law_objection(&log, &program.breaks, folder),
+        };
+        if let Some(reason) = objection {
             objections.push(format!("{place}, {}: {reason}", program.name));
         }
     }
