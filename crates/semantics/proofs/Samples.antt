@@ -160,7 +160,7 @@ frames =
     -- c ⊙ _
     fits (main-at (val (int 5)) empty (gather (op 1) (int 3 ∷ []) [] ∷ leaving)) ∷
     unfit (main-at (val (truth true)) empty (gather (op 1) (int 3 ∷ []) [] ∷ leaving)) ∷
-    unfit (main-at (val (int 5)) empty (gather (op 16) (int 3 ∷ []) [] ∷ leaving)) ∷
+    unfit (main-at (val (int 5)) empty (gather (op 16) (int 3 ∷ []) [] ∷ leaving)) ∷ unfit (main-at (val (int 5)) empty (gather (op 16) (int 3 ∷ []) [] ∷ checking)) ∷
     unfit (main-at (val (int 5)) empty (gather (op 1) (truth true ∷ []) [] ∷ leaving)) ∷
     -- _ && e
     fits (main-at (val (truth true)) (nothing ∷ truth true ∷ []) (and 7 ∷ checking)) ∷
