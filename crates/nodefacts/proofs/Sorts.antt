@@ -43,9 +43,8 @@ module _ {s : List ℕ} {f : ℕ} {t : List ℕ} {n : ℕ} (p : Part s f t n) wh
     pub not-own : n ≤ i → false ≡ exprIn (programOf s) f i
     not-own l = rw (expression, le-ltb i n l)
 
-    pub own-expression : {k : ℕ} → i < n → k ≡ kindAt t i → (ltb k 6 || eqb k 15) ≡ exprIn (programOf s) f i
-    unfolding isExpression
-    own-expression l e = rw (expression, lt-ltb i n l, e)
+    pub own-expression : {k : ℕ} {r : Bool} → i < n → k ≡ kindAt t i → r ≡ isExpression k → r ≡ exprIn (programOf s) f i
+    own-expression l e h = rw (expression, lt-ltb i n l, h, e)
 
     pub expression-inside : exprIn (programOf s) f i ≡ true → i < n
     expression-inside e = ltb-true i n (and-left _ _ (sym expression ∙ e))

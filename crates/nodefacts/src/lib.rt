@@ -64,11 +64,11 @@ pub fn is_expression(file: &[u8], f: usize, part: &[u8], n: usize, i: u32) -> bo
     ensures { λ r. ⌜ r ≡ exprIn (programOf (now (file .entry))) f i ⌝ }
 {
     let at = i as usize;
-    if n <= at {
-        return false;
+    if at < n {
+        sorts::is_expression(kind_at(part, at))
+    } else {
+        false
     }
-    let kind = kind_at(part, at);
-    (kind < 6) | (kind == 15)
 }
 
 // Whether the expression at node i is a constant.

@@ -15,7 +15,7 @@ ghost use Rattle.language.specs.Sorts.{isExpression, wantsExpression, wrongSort
 ghost use Rattle.language.specs.Nodes.{wrongChild, misplaced};
 
 // Whether a kind is an expression.
-fn is_expression(kind: u8) -> bool
+pub fn is_expression(kind: u8) -> bool
     ensures { λ r. ⌜ r ≡ isExpression kind ⌝ }
 {
     match kind {

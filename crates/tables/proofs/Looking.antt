@@ -38,8 +38,7 @@ module _ {s : List ℕ} {f : ℕ} {t : List ℕ} {n : ℕ} (p : Part s f t n) {t
 
   -- an expression of the function
   pub expression-row : (i : ℕ) → exprIn (programOf s) f i ≡ true → Needs (readsOf t i) (wordOf table i 1)
-  unfolding isExpression
-  expression-row i h = let l = expression-inside p i h in o .0 .reads i l (own-expression p i l refl ∙ h)
+  expression-row i h = let l = expression-inside p i h in o .0 .reads i l (own-expression p i l refl refl ∙ h)
 
   -- a statement of the function
   pub statement-row : (i : ℕ) → i < n → (ltb i n && (leb 7 (kindAt t i) && leb (kindAt t i) 14)) ≡ true → Rowed (statementAt t i) table i

@@ -164,7 +164,7 @@ fn add_row(file: &[u8], f: usize, part: &[u8], n: usize, table: &mut [u64], i: u
     ensures { λ _. ⌜ Filled (now (part .entry)) (now (table .exit)) (i + 1) ⌝ }
 {
     let kind = kind_at(part, i);
-    if (kind < 6) | (kind == 15) {
+    if sorts::is_expression(kind) {
         let needs = expression_needs(file, f, part, n, table, i);
         let r = rows::plain(needs, VarSet::empty(), false);
         return put_row(table, i, 0, r);

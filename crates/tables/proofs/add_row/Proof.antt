@@ -1,29 +1,22 @@
 use Rattle.tables.proofs.Stored.{more-reads, more-flows}
 use Rattle.tables.proofs.Filling.{read-asks}
-use Rattle.language.specs.Sorts.{isExpression}
 use native.Mathlib.Omega.{arith}
-use mathlib.Core.Path.{refl, sym, ap, _∙_}
+use mathlib.Core.Path.{refl}
 use borrow.Author.Needs.{needs}
 use Rattle.tables.proofs.add_row.Statement.{statement}
 use Rattle.tables.proofs.add_row.Tie as tie
-use Rattle.tables.proofs.add_row.Reads as reads
-use Rattle.tables.proofs.add_row.Lts as lts
-use Rattle.node_records.proofs.kind_at.Reads as kind-at-reads
-use Rattle.rows.proofs.plain.Reads as plain-reads
-use Rattle.tables.proofs.expression_needs.Reads as expression-needs-reads
-use Rattle.tables.proofs.flags_of.Reads as flags-of-reads
-use Rattle.tables.proofs.put_row.Reads as put-row-reads
-use Rattle.tables.proofs.statement_row.Reads as statement-row-reads
-use Rattle.varset.proofs.VarSet.empty.Reads as empty-reads
 
 -- src/lib.rt:166:9
 kind-at-requires : tie.Need-kind-at-requires
 kind-at-requires c κs = read-asks (c .before .before .before .pre .0 .0) (c .before .before .before .pre .0 .1) .0
 
+-- src/lib.rt:167:8
+is-expression-requires : tie.Need-is-expression-requires
+is-expression-requires c κs = search needs
+
 -- src/lib.rt:168:13
 expression-needs-requires : tie.Need-expression-needs-requires
-unfolding isExpression
-expression-needs-requires c κs = ((c .before .before .before .before .before .before .pre .0 .0, c .before .before .before .before .before .before .pre .0 .1, (rw (← c .before .before .kind-at .ensures) (c .before .if1 .taken))), c .before .before .before .before .before .before .pre .1)
+expression-needs-requires c κs = ((c .before .before .before .before .before .before .before .pre .0 .0, c .before .before .before .before .before .before .before .pre .0 .1, (rw (← c .before .before .before .kind-at .ensures, ← c .before .before .is-expression .ensures) (c .before .if1 .taken))), c .before .before .before .before .before .before .before .pre .1)
 
 -- src/lib.rt:169:36
 empty-requires : tie.Need-empty-requires
@@ -43,13 +36,11 @@ same-length c = search needs
 
 -- src/lib.rt:170:9
 returns : tie.Need-returns
-unfolding isExpression
-returns c = more-reads _ _ _ _ _ _ _ _ (omega (arith, c .before .before .before .before .before .before .before .before .before .before .before .before .before .pre .0 .1, c .before .before .before .before .before .before .before .before .before .before .before .before .before .pre .1 .1)) (c .before .before .put-row .ensures) (c .before .before .before .before .before .before .before .before .before .before .before .before .before .pre .1 .0) (rw (← c .before .before .before .before .before .before .before .before .before .kind-at .ensures) (c .before .before .before .before .before .before .before .before .if1 .taken)) (rw (c .before .before .before .before .plain .ensures .0 .2) (c .before .before .before .before .before .before .expression-needs .ensures))
+returns c = more-reads _ _ _ _ _ _ _ _ (omega (arith, c .before .before .before .before .before .before .before .before .before .before .before .before .before .before .pre .0 .1, c .before .before .before .before .before .before .before .before .before .before .before .before .before .before .pre .1 .1)) (c .before .before .put-row .ensures) (c .before .before .before .before .before .before .before .before .before .before .before .before .before .before .pre .1 .0) (rw (← c .before .before .before .before .before .before .before .before .before .before .kind-at .ensures, ← c .before .before .before .before .before .before .before .before .before .is-expression .ensures) (c .before .before .before .before .before .before .before .before .if1 .taken)) (rw (c .before .before .before .before .plain .ensures .0 .2) (c .before .before .before .before .before .before .expression-needs .ensures))
 
 -- src/lib.rt:172:9
 statement-row-requires : tie.Need-statement-row-requires
-unfolding isExpression
-statement-row-requires c κs = ((c .before .before .before .before .before .before .pre .0 .0, c .before .before .before .before .before .before .pre .0 .1, (rw (← c .before .before .kind-at .ensures) (c .before .if1 .left))), c .before .before .before .before .before .before .pre .1)
+statement-row-requires c κs = ((c .before .before .before .before .before .before .before .pre .0 .0, c .before .before .before .before .before .before .before .pre .0 .1, (rw (← c .before .before .before .kind-at .ensures, ← c .before .before .is-expression .ensures) (c .before .if1 .left))), c .before .before .before .before .before .before .before .pre .1)
 
 -- src/lib.rt:173:9
 flags-of-requires : tie.Need-flags-of-requires
@@ -65,14 +56,14 @@ same-length-2 c = search needs
 
 -- src/lib.rt:161:1
 returns-2 : tie.Need-returns-2
-unfolding isExpression
-returns-2 c = more-flows _ _ _ _ _ _ _ _ (omega (arith, c .before .before .before .before .before .before .before .before .before .before .before .before .pre .0 .1, c .before .before .before .before .before .before .before .before .before .before .before .before .pre .1 .1)) (c .before .before .put-row2 .ensures) (c .before .before .before .before .before .before .before .before .before .before .before .before .pre .1 .0) (rw (← c .before .before .before .before .before .before .before .before .kind-at .ensures) (c .before .before .before .before .before .before .before .if1 .left)) (c .before .before .before .before .before .statement-row .ensures) (c .before .before .before .before .flags-of .ensures) refl refl refl refl
+returns-2 c = more-flows _ _ _ _ _ _ _ _ (omega (arith, c .before .before .before .before .before .before .before .before .before .before .before .before .before .pre .0 .1, c .before .before .before .before .before .before .before .before .before .before .before .before .before .pre .1 .1)) (c .before .before .put-row2 .ensures) (c .before .before .before .before .before .before .before .before .before .before .before .before .before .pre .1 .0) (rw (← c .before .before .before .before .before .before .before .before .before .kind-at .ensures, ← c .before .before .before .before .before .before .before .before .is-expression .ensures) (c .before .before .before .before .before .before .before .if1 .left)) (c .before .before .before .before .before .statement-row .ensures) (c .before .before .before .before .flags-of .ensures) refl refl refl refl
 
 pub add-row-spec : {M : Type 1} → statement M
 add-row-spec =
     tie.close
     (tie.spec
     kind-at-requires
+    is-expression-requires
     expression-needs-requires
     empty-requires
     plain-requires
