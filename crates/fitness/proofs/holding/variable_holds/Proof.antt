@@ -3,8 +3,8 @@ use Rattle.fitness.proofs.Values.{nothing-holds, some-holds}
 use Rattle.semantics.specs.Program.{varType}
 use Rattle.semantics.specs.File.{programOf}
 use borrow.Author.Needs.{needs}
-use Rattle.fitness.proofs.variable_holds.Statement.{statement}
-use Rattle.fitness.proofs.variable_holds.Tie as tie
+use Rattle.fitness.proofs.holding.variable_holds.Statement.{statement}
+use Rattle.fitness.proofs.holding.variable_holds.Tie as tie
 
 returns : tie.Need-returns
 returns c = let a = c .before .before .before .args in λ w. sym (nothing-holds (a .tag) w (varType (programOf (a .file .now) .fun (a .f)) (a .x)) (c .if1 .taken))

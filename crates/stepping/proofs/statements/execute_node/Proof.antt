@@ -15,15 +15,15 @@ use Rattle.transitions.proofs.Entries.{on-is}
 use Rattle.stepping.proofs.Facts.{variables-few, decl-variable}
 use Rattle.stepping.proofs.Forms.{form-seq, form-assign, form-decl, form-if, form-while, single-done}
 use borrow.Author.Needs.{needs}
-use Rattle.stepping.proofs.execute_node.Statement.{statement}
-use Rattle.stepping.proofs.execute_node.Tie as tie
-use Rattle.stepping.proofs.execute_node.Reads as reads
-use Rattle.stepping.proofs.execute_node.Lts as lts
+use Rattle.stepping.proofs.statements.execute_node.Statement.{statement}
+use Rattle.stepping.proofs.statements.execute_node.Tie as tie
+use Rattle.stepping.proofs.statements.execute_node.Reads as reads
+use Rattle.stepping.proofs.statements.execute_node.Lts as lts
 use Rattle.node_records.proofs.b_at.Reads as b-at-reads
 use Rattle.node_records.proofs.kind_at.Reads as kind-at-reads
 use Rattle.node_records.proofs.prior.Reads as prior-reads
 use Rattle.records.proofs.wide.Reads as wide-reads
-use Rattle.stepping.proofs.ref_word_at.Reads as ref-word-at-reads
+use Rattle.stepping.proofs.statements.ref_word_at.Reads as ref-word-at-reads
 use Rattle.stepping.proofs.unreachable.Reads as unreachable-reads
 use Rattle.transitions.proofs.lay.Reads as lay-reads
 use Rattle.transitions.proofs.put.Reads as put-reads

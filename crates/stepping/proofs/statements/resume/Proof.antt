@@ -5,10 +5,10 @@ use Rattle.store.specs.Meaning.{controlIs}
 use Rattle.transitions.proofs.Steps.{counted-under}
 use Rattle.stepping.proofs.Views.{is-operator, is-call, is-and, is-wait, is-store, is-branch, is-leave, is-assert, is-discard}
 use borrow.Author.Needs.{needs}
-use Rattle.stepping.proofs.resume.Statement.{statement}
-use Rattle.stepping.proofs.resume.Tie as tie
-use Rattle.stepping.proofs.resume.Reads as reads
-use Rattle.stepping.proofs.resume.Lts as lts
+use Rattle.stepping.proofs.statements.resume.Statement.{statement}
+use Rattle.stepping.proofs.statements.resume.Tie as tie
+use Rattle.stepping.proofs.statements.resume.Reads as reads
+use Rattle.stepping.proofs.statements.resume.Lts as lts
 use Rattle.topframe.proofs.top_frame.Reads as top-frame-reads
 use Rattle.transitions.proofs.take_off.Reads as take-off-reads
 

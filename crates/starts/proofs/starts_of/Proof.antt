@@ -1,17 +1,13 @@
 use lib.ListN.{set, length, length-set}
-use mathlib.Core.Path.{_≡_, refl, _∙_}
+use mathlib.Core.Path.{_≡_, refl}
 use Prim.Native.Nat.{_*_, _-_, _≤_}
 use native.Mathlib.Omega.{arith}
 use borrow.Author.Needs.{needs}
 use Rattle.records.specs.Parts.{startOf}
-use Rattle.records.proofs.Parts.{start-first, start-on, part-fits}
-use Rattle.machine.proofs.Tables.{StartsTo, starts-more}
-use Rattle.machine.proofs.starts_of.Statement.{statement}
-use Rattle.machine.proofs.starts_of.Tie as tie
-use Rattle.machine.proofs.starts_of.Reads as reads
-use Rattle.machine.proofs.starts_of.Lts as lts
-use Rattle.records.proofs.count_of.Reads as count-of-reads
-use Rattle.records.proofs.function_count.Reads as function-count-reads
+use Rattle.records.proofs.Parts.{start-first, start-on}
+use Rattle.starts.proofs.Tables.{StartsTo, starts-more}
+use Rattle.starts.proofs.starts_of.Statement.{statement}
+use Rattle.starts.proofs.starts_of.Tie as tie
 
 abbrev Inv-loop : tie.InvT-loop
 Inv-loop file functions starts₀ f₀ start₀ starts f start = (f ≤ functions) × (start ≡ 12 * startOf file f) × (length starts ≡ 128) × StartsTo file starts f
@@ -19,54 +15,42 @@ Inv-loop file functions starts₀ f₀ start₀ starts f start = (f ≤ function
 abbrev μ-loop : tie.MeasureT-loop
 μ-loop file functions starts₀ f₀ start₀ starts f start = functions - f
 
--- src/lib.rt:52:9
 function-count-requires : tie.Need-function-count-requires Inv-loop μ-loop
 function-count-requires c κs = omega (arith, c .before .pre .heads)
 
--- src/lib.rt:55:27
 add-start : tie.Need-add-start Inv-loop μ-loop
 add-start c = omega (arith, c .function-count .ensures .1)
 
--- src/lib.rt:55:21
 mul-start : tie.Need-mul-start Inv-loop μ-loop
 mul-start c = omega (arith, c .function-count .ensures .1)
 
--- src/lib.rt:56:5
 loop-holds : tie.Need-loop-holds Inv-loop μ-loop
 loop-holds c = (search needs, rw (start-first (c .before .before .args .file .now), c .function-count .ensures .0), refl, λ g h. absurd (omega arith))
 
--- src/lib.rt:57:9
 mul-starts : tie.Need-mul-starts Inv-loop μ-loop
 mul-starts c = omega (arith, c .before .before .before .before .pre .few, c .before .before .function-count .ensures .0, c .loop-test .taken)
 
--- src/lib.rt:57:9
 array-write-starts : tie.Need-array-write-starts Inv-loop μ-loop
 array-write-starts c = omega (arith, c .before .before .before .before .pre .few, c .before .before .function-count .ensures .0, c .loop-test .taken)
 
--- src/lib.rt:58:23
 count-of-requires : tie.Need-count-of-requires Inv-loop μ-loop
 count-of-requires c κs = omega (arith, c .before .before .before .before .pre .heads, c .before .before .function-count .ensures .0, c .loop-test .taken)
 
--- src/lib.rt:58:18
 mul-start-2 : tie.Need-mul-start-2 Inv-loop μ-loop
 mul-start-2 c = omega (arith, c .count-of .ensures .1)
 
--- src/lib.rt:58:9
 add-start-2 : tie.Need-add-start-2 Inv-loop μ-loop
 add-start-2 c =
     let l = c .before .before .loop in
     let k = rw (c .before .before .before .function-count .ensures .0) at (c .before .loop-test .taken) in
     omega (arith, l .inv .1, c .count-of .ensures .0, c .before .before .before .before .before .pre .fits (l .f) k)
 
--- src/lib.rt:59:9
 add-f : tie.Need-add-f Inv-loop μ-loop
 add-f c = search needs
 
--- src/lib.rt:56:5
 loop-less : tie.Need-loop-less Inv-loop μ-loop
 loop-less c = search needs
 
--- src/lib.rt:56:5
 loop-again : tie.Need-loop-again Inv-loop μ-loop
 loop-again c =
     let l = c .before .before .loop in
@@ -77,7 +61,6 @@ loop-again c =
       starts-more (a .file .now) (l .starts) (l .f) (l .start) (l .inv .1) (omega (arith, l .inv .2, c .before .before .before .before .before .pre .few, c .before .before .before .function-count .ensures .0, c .before .loop-test .taken)) (l .inv .3),
     )
 
--- src/lib.rt:48:1
 returns : tie.Need-returns Inv-loop μ-loop
 returns c = (c .before .before .before .before .pre, λ g h. c .before .loop .inv .3 g (omega (arith, h, c .loop-test .left, c .before .before .function-count .ensures .0)))
 

@@ -1,8 +1,8 @@
 use mathlib.Core.Path.{_∙_}
 use borrow.Author.Tests.{ne-eqb}
 use borrow.Author.Needs.{needs}
-use Rattle.fitness.proofs.with_value.Statement.{statement}
-use Rattle.fitness.proofs.with_value.Tie as tie
+use Rattle.fitness.proofs.holding.with_value.Statement.{statement}
+use Rattle.fitness.proofs.holding.with_value.Tie as tie
 
 returns : tie.Need-returns
 returns c = rw (c .if1 .taken)

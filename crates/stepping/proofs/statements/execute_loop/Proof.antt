@@ -6,10 +6,10 @@ use Rattle.image.specs.Layout.{refWord, frameWords, block}
 use Rattle.store.specs.Meaning.{controlIs}
 use Rattle.stepping.proofs.Loops.{see-if, see-seq}
 use borrow.Author.Needs.{needs}
-use Rattle.stepping.proofs.execute_loop.Statement.{statement}
-use Rattle.stepping.proofs.execute_loop.Tie as tie
-use Rattle.stepping.proofs.execute_loop.Reads as reads
-use Rattle.stepping.proofs.execute_loop.Lts as lts
+use Rattle.stepping.proofs.statements.execute_loop.Statement.{statement}
+use Rattle.stepping.proofs.statements.execute_loop.Tie as tie
+use Rattle.stepping.proofs.statements.execute_loop.Reads as reads
+use Rattle.stepping.proofs.statements.execute_loop.Lts as lts
 use Rattle.node_records.proofs.prior.Reads as prior-reads
 use Rattle.transitions.proofs.lay.Reads as lay-reads
 use Rattle.gathering.proofs.reach.Reads as reach-reads

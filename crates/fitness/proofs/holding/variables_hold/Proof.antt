@@ -15,8 +15,8 @@ use Rattle.semantics.specs.Test.{holds}
 use Rattle.fitness.specs.Meaning.{variablesIn}
 use Rattle.fitness.proofs.Values.{holdsFrom, holds-more, holds-less, holds-end, holds-all, type-in, Below, below-none, below-more, below-all}
 use borrow.Author.Needs.{needs}
-use Rattle.fitness.proofs.variables_hold.Statement.{statement}
-use Rattle.fitness.proofs.variables_hold.Tie as tie
+use Rattle.fitness.proofs.holding.variables_hold.Statement.{statement}
+use Rattle.fitness.proofs.holding.variables_hold.Tie as tie
 
 abbrev Inv-loop : tie.InvT-loop
 Inv-loop file f part n decls m a v set₀ x₀ set x = (x ≤ v) × (holds (variablesIn m a v) (varTypes (programOf file .fun f)) ≡ holdsFrom (types.varType file f (partOf file f) (countOf file f)) m a v x x) × Below (has (set .0)) (variablesIn m a v) x
