@@ -13,8 +13,8 @@ use Rattle.language.specs.Flow.{leaves, missing, lacks, returns}
 use Rattle.language.proofs.Trees.{statement-while}
 use Rattle.semantics.specs.File.{unrolled, looped}
 use Rattle.semantics.specs.Test.{clear}
-use Rattle.nodefacts.specs.declared.Passage.{Passage}
-use Rattle.nodefacts.specs.Goes.{Goes}
+use Rattle.flowfacts.specs.declared.Passage.{Passage}
+use Rattle.flowfacts.specs.Goes.{Goes}
 
 -- two searches are clear together
 clear-both : (a b : Found) → clear (orElse a b) ≡ clear a && clear b

@@ -4,7 +4,7 @@ use Rattle.varset.specs.Sets.{Set, has}
 use Rattle.language.specs.Statements.{Statement}
 use Rattle.language.specs.Flow.{leaves, lacks}
 use Rattle.semantics.specs.Test.{clear}
-use Rattle.nodefacts.specs.declared.Passage.{Passage}
+use Rattle.flowfacts.specs.declared.Passage.{Passage}
 
 -- the answer for the statement s begun with the variables d
 pub record Goes (s : Statement) (d : Set) (r : Passage) : Type 0 where
