@@ -1,8 +1,8 @@
 use mathlib.Core.Path.{_∙_}
 use Rattle.frames.proofs.Steps.{branch-law}
 use borrow.Author.Needs.{needs}
-use Rattle.frames.proofs.branches.Statement.{statement}
-use Rattle.frames.proofs.branches.Tie as tie
+use Rattle.frames.proofs.statements.branches.Statement.{statement}
+use Rattle.frames.proofs.statements.branches.Tie as tie
 
 through-requires : tie.Need-through-requires
 through-requires c κs = search needs

@@ -4,8 +4,8 @@ use borrow.Author.Tests.{not-true, not-false, lt-ltb, le-ltb}
 use Rattle.frames.proofs.Steps.{store-none, store-unknown, store-law}
 use Rattle.frames.proofs.Files.{laid, record-in, has-var}
 use borrow.Author.Needs.{needs}
-use Rattle.frames.proofs.store_step.Statement.{statement}
-use Rattle.frames.proofs.store_step.Tie as tie
+use Rattle.frames.proofs.statements.store_step.Statement.{statement}
+use Rattle.frames.proofs.statements.store_step.Tie as tie
 
 refused-requires : tie.Need-refused-requires
 refused-requires c κs = search needs

@@ -1,8 +1,8 @@
 use Rattle.semantics.specs.File.{programOf, funOf}
 use Rattle.frames.proofs.Steps.{leave-law}
 use borrow.Author.Needs.{needs}
-use Rattle.frames.proofs.leave_step.Statement.{statement}
-use Rattle.frames.proofs.leave_step.Tie as tie
+use Rattle.frames.proofs.statements.leave_step.Statement.{statement}
+use Rattle.frames.proofs.statements.leave_step.Tie as tie
 
 bare-requires : tie.Need-bare-requires
 bare-requires c κs = search needs
