@@ -1,4 +1,4 @@
--- What an accepted answer says, question by question.
+-- Questions put one after another, and what an accepted answer says of each.
 use mathlib.Core.Path.{_≡_, refl, sym, _∙_}
 use mathlib.Core.Bool.{Bool, true, false}
 use mathlib.Core.List.{List, [], _∷_, _++_}
@@ -25,6 +25,13 @@ unfolding put refuse
 put-after [] rs e = refl
 put-after (ask k (At p x) ∷ qs) rs e = never k p x e
 put-after (ask k Nothing ∷ qs) rs e = put-after qs rs e
+
+-- a refusal is the first one
+pub put-early : (qs rs : List Asked) (k p x : ℕ) → put qs ≡ refused k p x → put (qs ++ rs) ≡ refused k p x
+unfolding put refuse
+put-early [] rs k p x e = never k p x (sym e)
+put-early (ask j (At i y) ∷ qs) rs k p x e = e
+put-early (ask j Nothing ∷ qs) rs k p x e = put-early qs rs k p x e
 
 -- where all pass, the first ones do
 pub put-front : (qs rs : List Asked) → put (qs ++ rs) ≡ accepted → put qs ≡ accepted
