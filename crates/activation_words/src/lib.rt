@@ -6,7 +6,7 @@ ghost use Prim.Native.Nat.{_+_, _*_, _≤_, _<_};
 ghost use lib.ListN.{length, getD, replicate};
 ghost use Rattle.words.specs.Blocks.{puts};
 ghost use Rattle.image.specs.Layout.{valueWords};
-ghost use Rattle.image.specs.Decode.{valueOf};
+ghost use Rattle.image.specs.Decode.{valueOf, heldIn};
 ghost use Rattle.store.specs.Meaning.{valueIs, activationAt, variableAt};
 
 // Word j of the activation with n activations under it.
@@ -15,6 +15,20 @@ pub fn activation_word(m: &[u32], n: usize, j: usize) -> u32
     ensures { λ r. ⌜ r ≡ getD (now (m .entry)) (activationAt n + j) 0 ⌝ }
 {
     m[128 + n * 136 + j]
+}
+
+// How many frames the first n activations have together.
+pub fn frames_held(m: &[u32], n: usize) -> usize
+    requires { ⌜ (16384 ≤ length (now m)) × (n ≤ 32) ⌝ }
+    ensures { λ r. ⌜ r ≡ heldIn (now (m .entry)) n ⌝ }
+{
+    let mut sum = 0;
+    let mut a = 0;
+    while a < n {
+        sum += activation_word(m, a, 1) as usize;
+        a += 1;
+    }
+    sum
 }
 
 // The first words of an activation stored over n activations, where all words are zero.

@@ -21,7 +21,8 @@ ghost use Rattle.image.specs.Image.{savedFrames};
 ghost use Rattle.image.specs.Core.{core};
 ghost use Rattle.store.specs.Meaning.{valueIs};
 ghost use Rattle.image.specs.Decode.{refOf};
-ghost use Rattle.transitions.specs.Comes.{Tells, Bounds, Starts, Called, Cleared, Comes};
+ghost use Rattle.transitions.specs.Comes.{Tells, Bounds, Called, Cleared, Comes};
+ghost use Rattle.starts.specs.Starts.{Starts};
 
 // The word of the body of the function whose part has its first byte at `start`.
 pub fn body_of(file: &[u8], start: usize, count: usize) -> u32

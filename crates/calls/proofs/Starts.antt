@@ -1,4 +1,4 @@
--- One more question at the end, and the words of the start.
+-- The question of the start after those of the file, and the words of the start.
 use mathlib.Core.Path.{_≡_, refl, sym, ap, _∙_}
 use mathlib.Core.List.{List, [], _∷_, _++_}
 use Prim.Native.Nat.{ℕ, _+_, _≤_, _<_}
@@ -8,46 +8,33 @@ use borrow.Author.Tests.{le-leb, lt-leb}
 use Rattle.words.specs.Blocks.{puts}
 use Rattle.words.proofs.Blocks.{puts-at}
 use Rattle.records.specs.Search.{unless}
-use Rattle.records.specs.declared.Found.the-variants.{At, Nothing}
-use Rattle.language.specs.Check.{accepted, refused, Asked, ask, questions, refuse, put, checkOf}
+use Rattle.language.specs.Check.{accepted, refused, questions, refuse, put, checkOf}
 use Rattle.semantics.specs.Machine.{main, calm}
 use Rattle.image.specs.Layout.{filled}
 use Rattle.image.specs.Image.{headWords, activationsOf, framesOf, image}
 use Rattle.image.specs.Memory.{size}
 use Rattle.calls.specs.Answers.{roomFor, startAnswer, written, startMemory}
-
--- a question put last
-put-last : (qs : List Asked) (q : Asked) → put qs ≡ accepted → put (qs ++ (q ∷ [])) ≡ put (q ∷ [])
-unfolding put refuse
-put-last [] q e = refl
-put-last (ask k (At p x) ∷ qs) q e = let z : _≡_ {A = ℕ} 0 1 = cc in absurd (omega arith)
-put-last (ask k Nothing ∷ qs) q e = put-last qs q e
-
-put-early : (qs : List Asked) (q : Asked) (k p x : ℕ) → put qs ≡ refused k p x → put (qs ++ (q ∷ [])) ≡ refused k p x
-unfolding put refuse
-put-early [] q k p x e = let z : _≡_ {A = ℕ} 0 1 = cc in absurd (omega arith)
-put-early (ask j (At i y) ∷ qs) q k p x e = e
-put-early (ask j Nothing ∷ qs) q k p x e = put-early qs q k p x e
+use Rattle.calls.proofs.Questions.{put-after, put-early}
 
 module _ (s m : List ℕ) where
   pub refused-early : (k p x : ℕ) → checkOf s ≡ refused k p x → (refused k p x ≡ startAnswer s m) × (m ≡ startMemory s m)
   unfolding checkOf startAnswer startMemory written
   refused-early k p x e =
-      let a : put (questions s ++ (roomFor m ∷ [])) ≡ refused k p x = put-early (questions s) (roomFor m) k p x e in
+      let a : put (questions s ++ (roomFor m ∷ [])) ≡ refused k p x = put-early (questions s) (roomFor m ∷ []) k p x e in
       (sym a, rw a)
 
   pub no-room : checkOf s ≡ accepted → length m < size → (refused 15 0 0 ≡ startAnswer s m) × (m ≡ startMemory s m)
   unfolding checkOf startAnswer startMemory written roomFor put refuse unless
   no-room e l =
       let b : put (roomFor m ∷ []) ≡ refused 15 0 0 = rw (lt-leb size (length m) l) in
-      let a : put (questions s ++ (roomFor m ∷ [])) ≡ refused 15 0 0 = put-last (questions s) (roomFor m) e ∙ b in
+      let a : put (questions s ++ (roomFor m ∷ [])) ≡ refused 15 0 0 = put-after (questions s) (roomFor m ∷ []) e ∙ b in
       (sym a, rw a)
 
   pub started : (l : List ℕ) → checkOf s ≡ accepted → size ≤ length m → l ≡ image (main calm) ++ drop size m → (accepted ≡ startAnswer s m) × (l ≡ startMemory s m)
   unfolding checkOf startAnswer startMemory written roomFor put refuse unless
   started l e h g =
       let b : put (roomFor m ∷ []) ≡ accepted = rw (le-leb size (length m) h) in
-      let a : put (questions s ++ (roomFor m ∷ [])) ≡ accepted = put-last (questions s) (roomFor m) e ∙ b in
+      let a : put (questions s ++ (roomFor m ∷ [])) ≡ accepted = put-after (questions s) (roomFor m ∷ []) e ∙ b in
       (sym a, rw a g)
 
 -- main() is a tag and zeros

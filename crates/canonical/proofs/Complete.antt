@@ -18,17 +18,17 @@ use Rattle.semantics.specs.Machine.{Exception, abort, val, eval, exec, State, e
 use Rattle.semantics.specs.Fit.{Within, callerLimit, frameLimit}
 use Rattle.image.specs.Layout.{filled, frameWords, controlWords, activationWords}
 use Rattle.image.specs.Image.{headWords, activationsOf, framesOf, image}
-use Rattle.image.specs.Decode.{framesHeld, activationsIn}
+use Rattle.image.specs.Decode.{framesHeld, heldIn, activationsIn}
 use Rattle.image.specs.Memory.{size, Holds}
 use Rattle.image.specs.Narrow.{NarrowFrame, NarrowActivation, Narrow}
 use Rattle.image.proofs.Blocks.{length-filled, frame-wide, activation-wide, every-so}
 use Rattle.image.proofs.Images.{length-frames, few-frames, frames-held, activationRoom, frameRoom, length-activations, image-parts, head-word, count-in, activations-in}
 use Rattle.image.proofs.Memory.{held-whole}
 use Rattle.canonical.specs.Blocks.{frameOk, activationOk}
-use Rattle.canonical.specs.Words.{tagOk, headOk, activationsOk, heldIn, framesOk, imageOk}
+use Rattle.canonical.specs.Words.{tagOk, headOk, activationsOk, framesOk, imageOk}
 use Rattle.canonical.proofs.Slots.{control-pass}
 use Rattle.canonical.proofs.Blocks.{frame-passes, activation-passes}
-use Rattle.canonical.proofs.Passing.{passing-region, held-total}
+use Rattle.canonical.proofs.Passing.{passing-region}
 
 -- ---- the head
 
@@ -119,7 +119,7 @@ module _ (s : State) (R : List ℕ) (w : Within s) (n : Narrow s) where
 
   held-in : heldIn (image s ++ R) (getD (image s ++ R) 2 0) ≡ length (framesOf s)
   unfolding activationsIn
-  held-in = held-total (image s ++ R) (getD (image s ++ R) 2 0) ∙ ap (total framesHeld) (activations-in s R n) ∙ frames-held s
+  held-in = ap (total framesHeld) (activations-in s R n) ∙ frames-held s
 
   image-passes : imageOk (image s ++ R) ≡ true
   unfolding imageOk

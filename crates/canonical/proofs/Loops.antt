@@ -9,7 +9,7 @@ use lib.ListN.{getD, take, drop}
 use lib.Seq.{drop-drop, getD-drop}
 use borrow.Author.Tests.{ne-eqb}
 use Rattle.canonical.specs.Blocks.{valueOk, valuesOk, nodesOk}
-use Rattle.canonical.specs.Words.{passing, heldIn}
+use Rattle.canonical.specs.Words.{passing}
 
 module _ (s : List ℕ) (n i : ℕ) (h : i < n) where
   -- what is left is one more than what is left after it
@@ -75,10 +75,3 @@ module _ (w : ℕ) (ok : List ℕ → Bool) (l : List ℕ) (a n : ℕ) (h : 0 < 
 
 pub passing-end : (w : ℕ) (ok : List ℕ → Bool) (l : List ℕ) (a n : ℕ) → n ≡ 0 → passing w ok l a n ≡ true
 passing-end w ok l a n e = rw e
-
--- one activation's frames
-pub held-more : (l : List ℕ) (n : ℕ) → 0 < n → heldIn l n ≡ getD l (128 + (n - 1) * 136 + 1) 0 + heldIn l (n - 1)
-held-more l n h = let e : n ≡ suc (n - 1) = omega arith in ap (heldIn l) e
-
-pub held-end : (l : List ℕ) (n : ℕ) → n ≡ 0 → heldIn l n ≡ 0
-held-end l n e = rw e

@@ -5,14 +5,12 @@ use mathlib.Core.List.{List, [], _∷_, _++_, append-assoc}
 use Prim.Native.Nat.{ℕ, zero, suc, _+_, _*_, _-_, _≤_}
 use native.Mathlib.Nat.{zero-mul, suc-mul}
 use native.Mathlib.Omega.{arith}
-use lib.ListN.{length, getD, take, drop, replicate, length-drop}
-use lib.Seq.{take-add, drop-drop, length-take-le, getD-take, getD-drop}
+use lib.ListN.{length, take, drop, replicate, length-drop}
+use lib.Seq.{take-add, drop-drop, length-take-le}
 use Rattle.words.specs.Stacks.{words, region, blockAt, entries, Every, Wide}
-use Rattle.words.specs.Segments.{total}
 use Rattle.words.proofs.Tests.{both}
 use Rattle.words.proofs.Entries.{block-over}
-use Rattle.image.specs.Decode.{activationOf, framesHeld}
-use Rattle.canonical.specs.Words.{passing, heldIn}
+use Rattle.canonical.specs.Words.{passing}
 
 module _ {E : Type 0} (w : ℕ) (enc : E → List ℕ) (ok : List ℕ → Bool) where
   pub passing-sound : (dec : List ℕ → E) (P : E → Type 0) → ((b : List ℕ) → length b ≡ w → ok b ≡ true → (enc (dec b) ≡ b) × P (dec b))
@@ -40,12 +38,3 @@ module _ {E : Type 0} (w : ℕ) (enc : E → List ℕ) (ok : List ℕ → Bool) 
       → passing w ok (H ++ (region w enc m K ++ R)) a (length K) ≡ true
   passing-region H R m a K ha h c =
       rw (append-assoc (words enc K) (replicate ((m - length K) * w) 0) R) (passing-words H (replicate ((m - length K) * w) 0 ++ R) a K ha h c)
-
--- the frames that activations say they have are the frames that they hold
-pub held-total : (l : List ℕ) (n : ℕ) → heldIn l n ≡ total framesHeld (entries 136 activationOf l 128 n)
-unfolding framesHeld activationOf
-held-total l zero = refl
-held-total l (suc n) =
-    let g : getD (blockAt 136 l 128 n) 1 0 ≡ getD l (128 + n * 136 + 1) 0
-    = getD-take 136 (drop (128 + n * 136) l) 1 0 (omega arith) ∙ getD-drop (128 + n * 136) l 1 0 in
-    rw (g, held-total l n)

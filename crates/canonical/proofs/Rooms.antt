@@ -9,8 +9,9 @@ use borrow.Author.Tests.{le-leb, lt-leb}
 use Rattle.words.specs.Blocks.{allZero}
 use Rattle.words.proofs.Tests.{both}
 use Rattle.semantics.specs.Fit.{frameLimit}
+use Rattle.image.specs.Decode.{heldIn}
 use Rattle.canonical.specs.Blocks.{frameOk, activationOk}
-use Rattle.canonical.specs.Words.{passing, tagOk, headOk, activationsOk, heldIn, framesOk, imageOk}
+use Rattle.canonical.specs.Words.{passing, tagOk, headOk, activationsOk, framesOk, imageOk}
 use Rattle.canonical.proofs.Runs.{few-said}
 
 module _ (l : List ℕ) (n : ℕ) where

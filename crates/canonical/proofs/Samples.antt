@@ -8,6 +8,7 @@ use Rattle.semantics.specs.Values.{nothing, int, truth}
 use Rattle.semantics.specs.Program.{op, fn, node, ifOf}
 use Rattle.semantics.specs.Machine.{arith, abort, Frame, gather, and, wait, branch, check, val, saved, calm, State, exception, main, returned, running}
 use Rattle.image.specs.Layout.{filled, bit, valueWords, valuesWords, nodesWords, refWord, block, gathering, frameWords, controlWords, activation, activationWords}
+use Rattle.image.specs.Decode.{activationOf, framesHeld}
 use Rattle.image.specs.Image.{savedActivations, savedFrames, headWords, activationsOf, framesOf, image}
 use Rattle.image.proofs.Samples.{looping, first, inside}
 use Rattle.canonical.specs.Blocks.{valueOk, controlOk, operandsOk, frameOk, activationOk}
@@ -55,7 +56,7 @@ full = running (val (truth true)) calm 5 (replicate 64 (int 9)) (replicate 3 wid
 images-pass : map (λ s. imageOk (image s ++ (7 ∷ 8 ∷ [])))
     (main calm ∷ looping ∷ first ∷ inside ∷ full ∷ returned calm 3 ∷ State.value 3 ∷ exception arith ∷ exception abort ∷ [])
     ≡ replicate 9 true
-unfolding filled bit valueWords valuesWords nodesWords refWord block gathering frameWords controlWords activationWords savedActivations savedFrames headWords activationsOf framesOf image valueOk controlOk operandsOk frameOk activationOk tagOk headOk activationsOk framesOk imageOk
+unfolding filled bit valueWords valuesWords nodesWords refWord block gathering frameWords controlWords activationWords savedActivations savedFrames headWords activationsOf framesOf image valueOk controlOk operandsOk frameOk activationOk tagOk headOk activationsOk framesOk imageOk activationOf framesHeld
 images-pass = refl
 
 -- a state past a limit, and one that is not narrow
@@ -63,7 +64,7 @@ images-fail : map (λ s. imageOk (image s))
     (running (val nothing) calm 0 [] [] (replicate 32 (saved 0 [] [])) ∷ running (val nothing) calm 0 [] (replicate 513 Frame.leave) []
     ∷ running (val nothing) calm 0 (replicate 65 nothing) [] [] ∷ running (val nothing) calm 0 [] (gather (fn 0) [] (replicate 9 1) ∷ []) [] ∷ [])
     ≡ replicate 4 false
-unfolding filled bit valueWords valuesWords nodesWords refWord block gathering frameWords controlWords activationWords savedActivations savedFrames headWords activationsOf framesOf image valueOk controlOk operandsOk frameOk activationOk tagOk headOk activationsOk framesOk imageOk
+unfolding filled bit valueWords valuesWords nodesWords refWord block gathering frameWords controlWords activationWords savedActivations savedFrames headWords activationsOf framesOf image valueOk controlOk operandsOk frameOk activationOk tagOk headOk activationsOk framesOk imageOk activationOf framesHeld
 images-fail = refl
 
 -- a state, a place, and the word that it is changed to
@@ -82,5 +83,5 @@ changed-fail : map (λ c. imageOk (changed c))
     ∷ change inside 3 0 ∷ change inside 3 6 ∷ change inside 3 3 ∷ change inside 3 1 ∷ change inside 265 1 ∷ change inside 265 3 ∷ change inside 265 4294967295
     ∷ change inside 400 1 ∷ change inside 4560 9 ∷ change inside 14719 1 ∷ [])
     ≡ replicate 22 false
-unfolding filled bit valueWords valuesWords nodesWords refWord block gathering frameWords controlWords activationWords savedActivations savedFrames headWords activationsOf framesOf image valueOk controlOk operandsOk frameOk activationOk tagOk headOk activationsOk framesOk imageOk
+unfolding filled bit valueWords valuesWords nodesWords refWord block gathering frameWords controlWords activationWords savedActivations savedFrames headWords activationsOf framesOf image valueOk controlOk operandsOk frameOk activationOk tagOk headOk activationsOk framesOk imageOk activationOf framesHeld
 changed-fail = refl

@@ -17,15 +17,15 @@ use Rattle.semantics.specs.Machine.{Exception, abort, calm, State, exception, m
 use Rattle.semantics.specs.Fit.{Within, callerLimit, frameLimit}
 use Rattle.image.specs.Layout.{filled, frameWords, activationWords}
 use Rattle.image.specs.Image.{headWords, activationsOf, framesOf, image}
-use Rattle.image.specs.Decode.{frameOf, controlOf, activationOf, framesHeld, runningOf, activationsIn, framesIn, states, stateOf}
+use Rattle.image.specs.Decode.{frameOf, controlOf, activationOf, framesHeld, heldIn, runningOf, activationsIn, framesIn, states, stateOf}
 use Rattle.image.specs.Memory.{size, Holds}
 use Rattle.image.specs.Narrow.{NarrowFrame, NarrowActivation, Narrow}
 use Rattle.image.proofs.Rooms.{rooms}
 use Rattle.canonical.specs.Blocks.{controlOk, frameOk, activationOk}
-use Rattle.canonical.specs.Words.{passing, tagOk, headOk, activationsOk, heldIn, framesOk, imageOk}
+use Rattle.canonical.specs.Words.{passing, tagOk, headOk, activationsOk, framesOk, imageOk}
 use Rattle.canonical.proofs.Slots.{control-sound}
 use Rattle.canonical.proofs.Blocks.{zeros, frame-sound, activation-sound}
-use Rattle.canonical.proofs.Passing.{passing-sound, held-total}
+use Rattle.canonical.proofs.Passing.{passing-sound}
 use Rattle.canonical.proofs.Runs.{runs, head-sound, plain, few-said}
 
 -- ---- the rooms
@@ -84,7 +84,7 @@ module _ (l : List ℕ) (long : 16384 ≤ length l) where
 
     held : heldIn l (getD l 2 0) ≡ total framesHeld (activationsIn l)
     unfolding activationsIn
-    held = held-total l (getD l 2 0)
+    held = refl
 
     few : getD l 2 0 ≤ callerLimit
     few = few-said _ _ _ _ _ said

@@ -7,6 +7,7 @@ use lib.ListN.{getD, take, drop}
 use Rattle.words.specs.Blocks.{allZero}
 use Rattle.words.specs.Stacks.{blockAt}
 use Rattle.semantics.specs.Fit.{callerLimit, frameLimit}
+use Rattle.image.specs.Decode.{heldIn}
 use Rattle.canonical.specs.Blocks.{controlOk, frameOk, activationOk}
 
 module _ (w : ℕ) (ok : List ℕ → Bool) where
@@ -29,11 +30,6 @@ headOk l = tagOk (getD l 0 0) (getD l 1 0) (getD l 2 0) (getD l 3 0) (getD l 4 0
 -- n activations, and zeros above them
 unfoldable pub activationsOk : List ℕ → ℕ → Bool
 activationsOk l n = passing 136 activationOk l 128 n && allZero (take ((32 - n) * 136) (drop (128 + n * 136) l))
-
--- the frames that n activations say they have
-abbrev pub heldIn : List ℕ → ℕ → ℕ
-heldIn l zero = 0
-heldIn l (suc n) = getD l (128 + n * 136 + 1) 0 + heldIn l n
 
 -- n frames, zeros above them, and the zeros at the end
 unfoldable pub framesOk : List ℕ → ℕ → Bool

@@ -9,7 +9,7 @@ ghost use Rattle.image.specs.Decode.{stateOf};
 ghost use Rattle.image.specs.Memory.{Holds};
 ghost use Rattle.image.specs.Narrow.{Narrow};
 ghost use Rattle.canonical.specs.Blocks.{valueOk, valuesOk, nodesOk, controlOk, operandsOk, frameOk, activationOk};
-ghost use Rattle.canonical.specs.Words.{tagOk, headOk, activationsOk, heldIn, framesOk, imageOk};
+ghost use Rattle.canonical.specs.Words.{tagOk, headOk, activationsOk, framesOk, imageOk};
 
 // Whether a type and a word are a value's.
 fn value_ok(tag: u32, word: u32) -> bool
@@ -173,20 +173,6 @@ fn wide(x: u32) -> usize
     x as usize
 }
 
-// How many frames n activations say they have.
-pub fn frames_held(m: &[u32], n: usize) -> usize
-    requires { ⌜ (16384 ≤ length (now m)) × (n ≤ 32) ⌝ }
-    ensures { λ r. ⌜ r ≡ heldIn (now (m .entry)) n ⌝ }
-{
-    let mut i = n;
-    let mut sum = 0;
-    while 0 < i {
-        i -= 1;
-        sum += wide(m[128 + i * 136 + 1]);
-    }
-    sum
-}
-
 // Whether n frames, and zeros above them, lie in their room, and zeros after it.
 fn frames_ok(m: &[u32], n: usize) -> bool
     requires { ⌜ (16384 ≤ length (now m)) × (n ≤ 512) ⌝ }
@@ -217,7 +203,7 @@ fn image_ok(m: &[u32]) -> bool
     if !activations_ok(m, n) {
         return false;
     }
-    let total = frames_held(m, n);
+    let total = activation_words::frames_held(m, n);
     if 512 < total {
         return false;
     }

@@ -1,17 +1,13 @@
--- The loops over activations, and the table of parts.
+-- The loops over activations.
 use mathlib.Core.Path.{_≡_, refl, sym, ap, _∙_}
 use mathlib.Core.Bool.{Bool, true, false, _&&_, and-false, false≢true}
 use mathlib.Core.List.{List, _++_}
-use Prim.Native.Nat.{ℕ, zero, suc, _+_, _*_, _-_, _≤_, _<_}
-use native.Mathlib.Numerals.{add-one}
-use native.Mathlib.Decide.{decLt, ℕ-discrete}
+use Prim.Native.Nat.{ℕ, suc, _+_, _*_, _-_, _≤_, _<_}
 use native.Mathlib.Omega.{arith}
 use lib.Dec.{eqb}
-use lib.ListN.{length, getD, set, take, drop}
-use lib.Seq.{getD-take, getD-drop, take-at, drop-at, getD-set-same, getD-set-other}
-use Rattle.records.specs.Parts.{startOf}
-use Rattle.words.specs.Stacks.{blockAt, entries}
-use Rattle.words.specs.Segments.{total}
+use lib.ListN.{getD, take, drop}
+use lib.Seq.{take-at, drop-at}
+use Rattle.words.specs.Stacks.{entries}
 use Rattle.words.proofs.Entries.{length-entries, entries-append}
 use Rattle.words.specs.Walks.{chain}
 use Rattle.semantics.specs.Values.{Value}
@@ -20,37 +16,30 @@ use Rattle.semantics.specs.Machine.{Frame}
 use Rattle.semantics.specs.Fit.{held}
 use Rattle.semantics.specs.Test.{known, holds}
 use Rattle.image.specs.Layout.{Activation, activation}
-use Rattle.image.specs.Decode.{frameOf, activationOf, framesHeld}
+use Rattle.image.specs.Decode.{frameOf, activationOf, framesHeld, activationsTo, heldIn}
 use Rattle.store.specs.Meaning.{activationAt}
+use Rattle.activation_words.proofs.Totals.{activation-word, frames-of, total-last}
 use Rattle.varset.specs.Sets.{has}
 use Rattle.frames.specs.declared.Next.{Next}
 use Rattle.frames.specs.Travel.{suits, onward, ends}
 use Rattle.frames.specs.Meaning.{downIs}
 use Rattle.fitness.specs.declared.Variables.{Variables}
 use Rattle.fitness.specs.Activations.{Over, at, calls, overOk, handed, framesFit, activationFit, functionOf, under, callersFit}
-use Rattle.fitness.specs.Meaning.{Hands, Holding, variablesIn, activationIn, activationsTo, framesTo}
+use Rattle.fitness.specs.Meaning.{Hands, Holding, variablesIn, activationIn, framesTo}
 
 -- ---- the words of an activation
 
 module _ (m : List ℕ) (a : ℕ) where
-  activation-word : (j : ℕ) → j < 136 → getD (blockAt 136 m 128 a) j 0 ≡ getD m (activationAt a + j) 0
-  unfolding activationAt
-  activation-word j h = getD-take 136 (drop (128 + a * 136) m) j 0 h ∙ getD-drop (128 + a * 136) m j 0
-
   -- the activation by its three words
   pub activation-in : (f k v : ℕ) → f ≡ getD m (activationAt a + 0) 0 → k ≡ getD m (activationAt a + 1) 0 → v ≡ getD m (activationAt a + 2) 0
       → activationIn m a ≡ activation f k (variablesIn m a v)
   unfolding activationOf
   activation-in f k v e q r =
-      rw (activation-word 0 (omega arith), activation-word 1 (omega arith), activation-word 2 (omega arith), ← e, ← q, ← r)
-
-  pub frames-of : (k : ℕ) → k ≡ getD m (activationAt a + 1) 0 → framesHeld (activationIn m a) ≡ k
-  unfolding activationOf framesHeld
-  frames-of k e = rw (activation-word 1 (omega arith), ← e)
+      rw (activation-word m a 0 (omega arith), activation-word m a 1 (omega arith), activation-word m a 2 (omega arith), ← e, ← q, ← r)
 
   pub function-of : (f : ℕ) → f ≡ getD m (activationAt a + 0) 0 → functionOf (activationIn m a) ≡ f
   unfolding activationOf
-  function-of f e = rw (activation-word 0 (omega arith), ← e)
+  function-of f e = rw (activation-word m a 0 (omega arith), ← e)
 
 -- ---- frames, the last k of the first ones and those under them
 
@@ -142,36 +131,5 @@ module _ {P : Program} {f : ℕ} {η : List Value} {r : Variables} (v : Holding 
 
 -- ---- how many frames there are
 
-pub total-next : (m : List ℕ) (a k : ℕ) → k ≡ getD m (activationAt a + 1) 0
-    → total framesHeld (activationsTo m (a + 1)) ≡ k + total framesHeld (activationsTo m a)
-total-next m a k e = rw (add-one a, frames-of m a k e)
-
-pub total-last : (m : List ℕ) (a k : ℕ) → 0 < a → k ≡ getD m (activationAt (a - 1) + 1) 0
-    → total framesHeld (activationsTo m a) ≡ k + total framesHeld (activationsTo m (a - 1))
-total-last m a k h e =
-    let z : a ≡ a - 1 + 1 = omega arith in
-    ap (λ (n : ℕ). total framesHeld (activationsTo m n)) z ∙ total-next m (a - 1) k e
-
-pub held-last : (m : List ℕ) (a : ℕ) → 0 < a → framesHeld (activationIn m (a - 1)) ≤ total framesHeld (activationsTo m a)
+pub held-last : (m : List ℕ) (a : ℕ) → 0 < a → framesHeld (activationIn m (a - 1)) ≤ heldIn m a
 held-last m a h = omega (arith, total-last m a (getD m (activationAt (a - 1) + 1) 0) h refl, frames-of m (a - 1) (getD m (activationAt (a - 1) + 1) 0) refl)
-
-pub total-up : (m : List ℕ) (a n : ℕ) → a ≤ n → total framesHeld (activationsTo m a) ≤ total framesHeld (activationsTo m n)
-total-up m a zero h = let z : a ≡ 0 = omega arith in rw z (omega arith)
-total-up m a (suc n) h = go (decLt a (suc n)) (total-up m a n)
-  where
-    go : Dec (a < suc n) → (a ≤ n → total framesHeld (activationsTo m a) ≤ total framesHeld (activationsTo m n))
-        → total framesHeld (activationsTo m a) ≤ total framesHeld (activationsTo m (suc n))
-    go (yes l) r = omega (arith, r (omega arith))
-    go (no l) r = let z : a ≡ suc n = omega arith in rw z (omega arith)
-
--- ---- the table of parts
-
-abbrev pub StartsTo : List ℕ → List ℕ → ℕ → Type 0
-StartsTo s table n = (f : ℕ) → f < n → getD table f 0 ≡ startOf s f
-
-pub starts-more : (s t u : List ℕ) (n : ℕ) → u ≡ set t n (startOf s n) → n < length t → StartsTo s t n → StartsTo s u (n + 1)
-starts-more s t u n e l h f p = rw e (go (ℕ-discrete f n))
-  where
-    go : Dec (f ≡ n) → getD (set t n (startOf s n)) f 0 ≡ startOf s f
-    go (yes q) = rw (q, getD-set-same t n (startOf s n) 0 l)
-    go (no q) = getD-set-other t n f (startOf s n) 0 q ∙ h f (omega arith)

@@ -14,14 +14,14 @@ use Rattle.semantics.specs.Fit.{Within, callerLimit, frameLimit, savedFrames}
 use Rattle.semantics.specs.Run.{within}
 use Rattle.semantics.specs.Test.{inWords, proper, fit}
 use Rattle.image.specs.Image.{headWords, activationsOf, framesOf, image}
-use Rattle.image.specs.Decode.{controlOf, framesHeld, activationsIn, framesIn}
+use Rattle.image.specs.Decode.{controlOf, framesHeld, activationsTo, heldIn, activationsIn, framesIn}
 use Rattle.image.specs.Narrow.{Narrow}
 use Rattle.image.proofs.Parts.{control-back}
 use Rattle.image.proofs.Images.{few-activations, few-frames, frames-held, head-word, count-in, activations-in, frames-in, decode-image}
 use Rattle.fitness.specs.Held.{Held}
 use Rattle.store.specs.Meaning.{activationAt}
 use Rattle.fitness.specs.Activations.{at, activationFit, functionOf, under, callersFit, runningFit}
-use Rattle.fitness.specs.Meaning.{activationIn, activationsTo, framesTo}
+use Rattle.fitness.specs.Meaning.{activationIn, framesTo}
 use Rattle.fitness.proofs.Activations.{proper-law}
 use Rattle.fitness.proofs.Lists.{function-of, under-is}
 use Rattle.fitness.proofs.Words.{Small, small-words}
@@ -117,7 +117,7 @@ module _ (m : List ℕ) (h : Held m) where
 -- ---- the way down from the current activation
 
 module _ (P : Program) (m : List ℕ) (s : State) (R : List ℕ) (e : m ≡ image s ++ R) (w : Within s) (n : Narrow s) (h : Small m) (tag : getD m 0 0 ≡ 2)
-    (c : Control) (high : ℕ) (ec : c ≡ controlOf (getD m 3 0) (getD m 4 0)) (eh : high ≡ total framesHeld (activationsTo m (getD m 2 0))) (here : 0 < getD m 2 0) where
+    (c : Control) (high : ℕ) (ec : c ≡ controlOf (getD m 3 0) (getD m 4 0)) (eh : high ≡ heldIn m (getD m 2 0)) (here : 0 < getD m 2 0) where
   abbrev a : ℕ
   a = getD m 2 0 - 1
 

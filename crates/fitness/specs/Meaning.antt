@@ -2,11 +2,9 @@
 use mathlib.Core.Path.{_≡_}
 use mathlib.Core.Bool.{true}
 use mathlib.Core.List.{List}
-use Prim.Native.Nat.{ℕ, _<_}
-use lib.ListN.{drop, getD}
+use Prim.Native.Nat.{ℕ}
+use lib.ListN.{drop}
 use Rattle.varset.specs.Sets.{Set, has}
-use Rattle.records.specs.Fields.{functions}
-use Rattle.records.specs.Parts.{startOf}
 use Rattle.words.specs.Stacks.{blockAt, entries}
 use Rattle.semantics.specs.Values.{Value}
 use Rattle.semantics.specs.Program.{Program, varTypes}
@@ -46,13 +44,6 @@ pub record Holding (P : Program) (f : ℕ) (η : List Value) (r : Variables) : T
 abbrev pub activationIn : List ℕ → ℕ → Activation
 activationIn m a = activationOf (blockAt 136 m 128 a)
 
--- the first n activations and the first n frames, the last first
-abbrev pub activationsTo : List ℕ → ℕ → List Activation
-activationsTo m n = entries 136 activationOf m 128 n
-
+-- the first n frames, the last first
 abbrev pub framesTo : List ℕ → ℕ → List Frame
 framesTo m n = entries 20 frameOf m 4480 n
-
--- a table of where the parts of a file start
-abbrev pub Starts : List ℕ → List ℕ → Type 0
-Starts s table = (f : ℕ) → f < functions s → getD table f 0 ≡ startOf s f

@@ -1,17 +1,19 @@
 // Whether the state that a memory holds is fit for an accepted file's program.
+mod holding;
+
 use activation_words::activation_word;
+use activation_words::frames_held;
 use descent::begin;
 use descent::frames_fit;
 use frames::Next;
 use frames::giving;
 use nodefacts::decls_of;
-use nodefacts::variable_type;
-use operands::tag_type;
 use records::count_of;
 use records::function_count;
 use records::result_of;
 use records::vars_of;
 use records::wide;
+use starts::starts_of;
 use store::Control;
 use store::control_of;
 use varset::VarSet;
@@ -19,30 +21,28 @@ ghost use mathlib.Core.Path.{_≡_};
 ghost use mathlib.Core.Bool.{true, _&&_};
 ghost use mathlib.Core.List.{List, _++_};
 ghost use Prim.Native.Nat.{ℕ, _+_, _*_, _≤_, _<_};
-ghost use lib.Dec.{eqb};
 ghost use lib.ListN.{length, getD};
-ghost use Rattle.varset.specs.Lowest.{pick};
-ghost use Rattle.varset.specs.Sets.{has, with};
+ghost use Rattle.varset.specs.Sets.{has};
 ghost use Rattle.records.specs.Fields.{functions, varsOf, countOf};
-ghost use Rattle.records.specs.Parts.{partOf, Laid};
+ghost use Rattle.records.specs.Parts.{partOf};
 ghost use Rattle.words.specs.Stacks.{entries};
-ghost use Rattle.words.specs.Segments.{total};
 ghost use Rattle.language.specs.Check.{accepted, checkOf};
 ghost use Rattle.scopes.specs.Counts.{Decls};
-ghost use Rattle.semantics.specs.Program.{varType, varTypes};
+ghost use Rattle.semantics.specs.Program.{varTypes};
 ghost use Rattle.semantics.specs.Machine.{State};
 ghost use Rattle.semantics.specs.Fit.{held, Within};
 ghost use Rattle.semantics.specs.File.{programOf};
-ghost use Rattle.semantics.specs.Test.{hold, holds, fit};
+ghost use Rattle.semantics.specs.Test.{holds, fit};
 ghost use Rattle.image.specs.Image.{image};
-ghost use Rattle.image.specs.Decode.{valueOf, frameOf, framesHeld};
+ghost use Rattle.image.specs.Decode.{frameOf, framesHeld, activationsTo, heldIn};
 ghost use Rattle.image.specs.Narrow.{Narrow};
 ghost use Rattle.store.specs.Meaning.{activationAt};
 ghost use Rattle.tables.specs.Tables.{Filled, Tabled};
 ghost use Rattle.nodefacts.specs.Part.{Part};
+ghost use Rattle.starts.specs.Starts.{Starts};
 ghost use Rattle.fitness.specs.Held.{Held};
 ghost use Rattle.fitness.specs.Activations.{framesFit, activationFit, callersFit};
-ghost use Rattle.fitness.specs.Meaning.{overIs, Hands, variablesIn, Holding, activationIn, activationsTo, framesTo, Starts};
+ghost use Rattle.fitness.specs.Meaning.{overIs, Hands, variablesIn, activationIn, framesTo};
 
 // What stands over an activation's frames: the control, or a callee that gives a result of a type.
 enum Over {
@@ -54,64 +54,6 @@ enum Over {
 struct Variables {
     ok: bool,
     set: VarSet,
-}
-
-// Whether a value, by the first of its words, is one that variable x holds.
-fn variable_holds(
-    file: &[u8],
-    f: usize,
-    part: &[u8],
-    n: usize,
-    decls: &[usize; 64],
-    tag: u32,
-    x: u32,
-) -> bool
-    requires { ⌜ Part (now file) f (now part) n × (Decls (now part) n (now decls)) × (x < varsOf (now file) f) ⌝ }
-    ensures { λ r. ⌜ ((w : ℕ) → r ≡ hold (valueOf tag w) (varType (programOf (now (file .entry)) .fun f) x)) ⌝ }
-{
-    if tag == 0 {
-        return true;
-    }
-    tag_type(tag) == variable_type(file, f, part, n, decls, x)
-}
-
-// The set with x added where the value, by the first of its words, is not nothing.
-fn with_value(set: VarSet, tag: u32, x: u32) -> VarSet
-    requires { ⌜ x < 64 ⌝ }
-    ensures { λ r. ⌜ has (r .0) ≡ pick (eqb tag 0) (has (set .0)) (with (has (set .0)) x) ⌝ }
-{
-    if tag == 0 {
-        return set;
-    }
-    set.insert(x)
-}
-
-// Whether the v variables of the activation over a activations hold what they may, and those that hold values.
-fn variables_hold(
-    file: &[u8],
-    f: usize,
-    part: &[u8],
-    n: usize,
-    decls: &[usize; 64],
-    m: &[u32],
-    a: usize,
-    v: u32,
-) -> Variables
-    requires part { ⌜ Part (now file) f (now part) n × Decls (now part) n (now decls) ⌝ }
-    requires room { ⌜ (16384 ≤ length (now m)) × (a < 32) × (v ≡ varsOf (now file) f) × (v ≤ 64) ⌝ }
-    ensures { λ r. ⌜ Holding (programOf (now (file .entry))) f (variablesIn (now (m .entry)) a v) r ⌝ }
-{
-    let mut set = VarSet::empty();
-    let mut x = 0u32;
-    while x < v {
-        let tag = activation_word(m, a, 8 + x as usize * 2);
-        if !variable_holds(file, f, part, n, decls, tag, x) {
-            return Variables { ok: false, set };
-        }
-        set = with_value(set, tag, x);
-        x += 1;
-    }
-    Variables { ok: true, set }
 }
 
 // What stands over the frames of an activation whose variables with values are the set.
@@ -156,7 +98,7 @@ fn activation_in(
     ensures { λ r. ⌜ r ≡ (holds (variablesIn (now (m .entry)) a v) (varTypes (programOf (now (file .entry)) .fun f)) && framesFit (programOf (now (file .entry))) f (held (variablesIn (now (m .entry)) a v)) (overIs over) (entries 20 frameOf (now (m .entry)) (4480 + low * 20) k)) ⌝ }
 {
     let decls = decls_of(file, f, part, n);
-    let vars = variables_hold(file, f, part, n, &decls, m, a, v);
+    let vars = holding::variables_hold(file, f, part, n, &decls, m, a, v);
     if !vars.ok {
         return false;
     }
@@ -222,9 +164,8 @@ fn activation_fits(
         return false;
     }
     let n = count_of(file, f);
-    let start = starts[f];
-    let from = 12 * start;
-    let end = 12 * (start + n);
+    let from = starts[f];
+    let end = from + 12 * n;
     activation_with(
         file,
         f,
@@ -241,37 +182,6 @@ fn activation_fits(
     )
 }
 
-// Where the parts of a file start.
-fn starts_of(file: &[u8]) -> [usize; 128]
-    requires { ⌜ Laid (now file) ⌝ }
-    ensures { λ r. ⌜ Starts (now (file .entry)) r ⌝ }
-{
-    let functions = function_count(file);
-    let mut starts = [0usize; 128];
-    let mut f = 0;
-    let mut start = 1 + functions;
-    while f < functions {
-        starts[f] = start;
-        start += count_of(file, f);
-        f += 1;
-    }
-    starts
-}
-
-// The number of frames that the first n activations have together.
-fn frames_held(m: &[u32], n: usize) -> usize
-    requires { ⌜ (16384 ≤ length (now m)) × (n ≤ 32) × (total framesHeld (activationsTo (now m) n) ≤ 512) ⌝ }
-    ensures { λ r. ⌜ r ≡ total framesHeld (activationsTo (now (m .entry)) n) ⌝ }
-{
-    let mut sum = 0;
-    let mut a = 0;
-    while a < n {
-        sum += activation_word(m, a, 1) as usize;
-        a += 1;
-    }
-    sum
-}
-
 // Whether the first n activations are fit as the callers of function f, whose table it is, with the first `high` frames.
 fn callers_fit(
     file: &[u8],
@@ -283,7 +193,7 @@ fn callers_fit(
     f: usize,
 ) -> bool
     requires file { ⌜ (checkOf (now file) ≡ accepted) × Starts (now file) (now starts) × (f < functions (now file)) ⌝ }
-    requires room { ⌜ (16384 ≤ length (now m)) × (n ≤ 32) × (high ≡ total framesHeld (activationsTo (now m) n)) × (high ≤ 512) × ((g : ℕ) → g < functions (now file) → 5 * countOf (now file) g ≤ length (now table)) × Filled (partOf (now file) f) (now table) (countOf (now file) f) ⌝ }
+    requires room { ⌜ (16384 ≤ length (now m)) × (n ≤ 32) × (high ≡ heldIn (now m) n) × (high ≤ 512) × ((g : ℕ) → g < functions (now file) → 5 * countOf (now file) g ≤ length (now table)) × Filled (partOf (now file) f) (now table) (countOf (now file) f) ⌝ }
     ensures { λ r. ⌜ r ≡ callersFit (programOf (now (file .entry))) f (activationsTo (now (m .entry)) n) (framesTo (now (m .entry)) high) ⌝ }
 {
     let mut a = n;

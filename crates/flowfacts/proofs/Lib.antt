@@ -1,1 +1,3 @@
 mod Passing
+mod Trees
+mod Refs

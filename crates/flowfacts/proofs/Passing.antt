@@ -12,8 +12,8 @@ use Rattle.language.specs.Statements.{Read, Statement}
 use Rattle.language.specs.Flow.{leaves, missing, lacks}
 use Rattle.semantics.specs.Test.{clear}
 use Rattle.summaries.specs.Summary.{Sub, Needs, Summary}
-use Rattle.nodefacts.specs.declared.Passage.{Passage}
-use Rattle.nodefacts.specs.Goes.{Goes}
+use Rattle.flowfacts.specs.declared.Passage.{Passage}
+use Rattle.flowfacts.specs.Goes.{Goes}
 
 -- nothing is left over exactly where one set is within another
 pub within-is : (a b : Set) → (less a b ≡ none) ↔ Sub a b

@@ -1,6 +1,5 @@
 // What a statement that waits leaves: which variables hold a value after it, and whether it returns; and what an expression reads.
 use node_records::prior;
-use nodefacts::Passage;
 use store::Ref;
 use tables::needs_at;
 use tables::row_at;
@@ -20,7 +19,13 @@ ghost use Rattle.store.specs.Meaning.{refIs};
 ghost use Rattle.summaries.specs.Summary.{Sub};
 ghost use Rattle.tables.specs.Tables.{Rowed, Tabled};
 ghost use Rattle.nodefacts.specs.Part.{Part};
-ghost use Rattle.nodefacts.specs.Goes.{Goes};
+ghost use Rattle.flowfacts.specs.Goes.{Goes};
+
+// Whether every read of a statement finds a value, and the variables that have a value after it.
+pub struct Passage {
+    pub ok: bool,
+    pub left: VarSet,
+}
 
 // Whether each member of one set is one of another.
 fn is_within(inner: VarSet, outer: VarSet) -> bool

@@ -1,33 +1,27 @@
 // The frames of an activation, one by one: whether each suits what comes down to it, and what it hands on.
-use flowfacts::returning;
-use flowfacts::through;
+mod statements;
+
 use frame_words::frame_word;
-use nodefacts::is_statement;
-use nodefacts::variable_type;
 use operands::gathers;
 use operands::node_suits;
 use records::function_count;
 use records::mask_of;
 use records::params_of;
 use records::result_of;
-use records::vars_of;
 use records::wide;
-use store::Ref;
-use store::ref_of;
 use typing::operator_type;
 use varset::VarSet;
 ghost use mathlib.Core.Path.{_≡_};
 ghost use mathlib.Core.Bool.{true, false};
-ghost use Prim.Native.Nat.{_+_, _*_, _≤_, _<_};
+ghost use Prim.Native.Nat.{_+_, _≤_, _<_};
 ghost use lib.ListN.{length, getD};
 ghost use Rattle.varset.specs.Sets.{has};
 ghost use Rattle.scopes.specs.Counts.{Decls};
 ghost use Rattle.semantics.specs.Program.{op, fn};
-ghost use Rattle.semantics.specs.Machine.{Frame, and, wait, branch};
+ghost use Rattle.semantics.specs.Machine.{and};
 ghost use Rattle.semantics.specs.File.{programOf};
-ghost use Rattle.semantics.specs.Test.{stmtIn};
-ghost use Rattle.image.specs.Decode.{refOf, operands};
-ghost use Rattle.store.specs.Meaning.{refIs, frameAt};
+ghost use Rattle.image.specs.Decode.{operands};
+ghost use Rattle.store.specs.Meaning.{frameAt};
 ghost use Rattle.tables.specs.Tables.{Tabled};
 ghost use Rattle.nodefacts.specs.Part.{Part};
 ghost use Rattle.operands.specs.Slots.{slotsIn};
@@ -177,125 +171,6 @@ fn and_step(
     Next { ok, down }
 }
 
-// A waiting statement, by its reference's word.
-fn wait_step(file: &[u8], f: usize, part: &[u8], n: usize, table: &[u64], x: u32, d: Down) -> Next
-    requires { ⌜ Part (now file) f (now part) n × Tabled (now part) n (now table) ⌝ }
-    ensures { λ r. ⌜ Steps (programOf (now (file .entry))) f d (wait (refOf x)) r ⌝ }
-{
-    if d.some {
-        return refused(d);
-    }
-    let r = ref_of(x);
-    if !is_statement(file, f, part, n, r) {
-        return refused(d);
-    }
-    let set = d.set;
-    let p = through(file, f, part, n, table, r, set);
-    let left = p.left;
-    let come = d.come | returning(file, f, part, n, table, r);
-    let down = bare(left, come);
-    Next { ok: p.ok, down }
-}
-
-// An assignment to variable x.
-fn store_step(
-    file: &[u8],
-    f: usize,
-    part: &[u8],
-    n: usize,
-    decls: &[usize; 64],
-    x: u32,
-    d: Down,
-) -> Next
-    requires { ⌜ Part (now file) f (now part) n × Decls (now part) n (now decls) ⌝ }
-    ensures { λ r. ⌜ Steps (programOf (now (file .entry))) f d (Frame.store x) r ⌝ }
-{
-    if !d.some {
-        return refused(d);
-    }
-    if wide(vars_of(file, f)) <= x {
-        return refused(d);
-    }
-    let set = d.set;
-    let ok = d.kind == variable_type(file, f, part, n, decls, x);
-    let down = bare(set.insert(x), d.come);
-    Next { ok, down }
-}
-
-// The two branches of an if, by their references' words.
-fn branch_step(
-    file: &[u8],
-    f: usize,
-    part: &[u8],
-    n: usize,
-    table: &[u64],
-    x: u32,
-    y: u32,
-    d: Down,
-) -> Next
-    requires { ⌜ Part (now file) f (now part) n × Tabled (now part) n (now table) ⌝ }
-    ensures { λ r. ⌜ Steps (programOf (now (file .entry))) f d (branch (refOf x) (refOf y)) r ⌝ }
-{
-    if !d.some {
-        return refused(d);
-    }
-    if d.kind != 2 {
-        return refused(d);
-    }
-    let r = ref_of(x);
-    let q = ref_of(y);
-    if !is_statement(file, f, part, n, r) {
-        return refused(d);
-    }
-    if !is_statement(file, f, part, n, q) {
-        return refused(d);
-    }
-    branches(file, f, part, n, table, r, q, d)
-}
-
-// Two branches that are statements.
-fn branches(
-    file: &[u8],
-    f: usize,
-    part: &[u8],
-    n: usize,
-    table: &[u64],
-    r: Ref,
-    q: Ref,
-    d: Down,
-) -> Next
-    requires part { ⌜ Part (now file) f (now part) n × Tabled (now part) n (now table) ⌝ }
-    requires statements { ⌜ (stmtIn (programOf (now file)) f (refIs r) ≡ true) × (stmtIn (programOf (now file)) f (refIs q) ≡ true) ⌝ }
-    requires given { ⌜ (d .some ≡ true) × (d .kind ≡ 2) ⌝ }
-    ensures { λ b. ⌜ Steps (programOf (now (file .entry))) f d (branch (refIs r) (refIs q)) b ⌝ }
-{
-    let set = d.set;
-    let p = through(file, f, part, n, table, r, set);
-    let o = through(file, f, part, n, table, q, set);
-    let left = p.left;
-    let other = o.left;
-    let ends = returning(file, f, part, n, table, r);
-    let come = d.come | (ends & returning(file, f, part, n, table, q));
-    let down = bare(left.meet(other), come);
-    Next {
-        ok: p.ok & o.ok,
-        down,
-    }
-}
-
-// A return's value.
-fn leave_step(file: &[u8], f: usize, d: Down) -> Next
-    requires { ⌜ 12 * (1 + f) + 12 ≤ length (now file) ⌝ }
-    ensures { λ r. ⌜ Steps (programOf (now (file .entry))) f d Frame.leave r ⌝ }
-{
-    let set = d.set;
-    let down = bare(set, true);
-    Next {
-        ok: d.some & (d.kind == result_of(file, f)),
-        down,
-    }
-}
-
 // What comes down, taken.
 fn taken(d: Down) -> Down
     ensures { λ r. ⌜ downIs r ≡ travel false 0 (has (d .set .0)) (d .come) ⌝ }
@@ -326,10 +201,10 @@ pub fn frame_step(
         1 => operator_step(file, f, part, n, decls, table, m, i, d),
         2 => call_step(file, f, part, n, decls, table, m, i, d),
         3 => and_step(file, f, part, n, decls, table, x, d),
-        4 => wait_step(file, f, part, n, table, x, d),
-        5 => store_step(file, f, part, n, decls, x, d),
-        6 => branch_step(file, f, part, n, table, x, frame_word(m, i, 2), d),
-        7 => leave_step(file, f, d),
+        4 => statements::wait_step(file, f, part, n, table, x, d),
+        5 => statements::store_step(file, f, part, n, decls, x, d),
+        6 => statements::branch_step(file, f, part, n, table, x, frame_word(m, i, 2), d),
+        7 => statements::leave_step(file, f, d),
         8 => Next {
             ok: d.some & (d.kind == 2),
             down: taken(d),

@@ -71,9 +71,16 @@ unfoldable pub runningOf : Control → List Activation → List Frame → State
 runningOf c [] K = main calm
 runningOf c (activation f k η ∷ rest) K = running c calm f η (take k K) (callersOf rest (drop k K))
 
+-- the first n activations of an image, the last first, and how many frames they have together
+abbrev pub activationsTo : List ℕ → ℕ → List Activation
+activationsTo m n = entries 136 activationOf m 128 n
+
+abbrev pub heldIn : List ℕ → ℕ → ℕ
+heldIn m n = total framesHeld (activationsTo m n)
+
 -- the activations of an image, the current one first, and their frames
 unfoldable pub activationsIn : List ℕ → List Activation
-activationsIn m = entries 136 activationOf m 128 (getD m 2 0)
+activationsIn m = activationsTo m (getD m 2 0)
 
 unfoldable pub framesIn : List ℕ → List Frame
 framesIn m = entries 20 frameOf m 4480 (total framesHeld (activationsIn m))

@@ -27,7 +27,7 @@ use Rattle.image.proofs.Memory.{held-length, held-state, whole-held}
 use Rattle.calls.specs.Answers.{given, valueOr, Told, told, turned, answered, written, startAnswer, startMemory, memoryAnswer, runFrom, runAnswer, runMemory, lookVerdict, lookAnswer}
 use Rattle.lists.specs.Forms.{Given, Asking, Form, Input, readsOf, Reply, answerOf, memoryAfter, Passed, Tells, Took, Does, form}
 use Rattle.lists.specs.Lists.{Image}
-use Rattle.lists.proofs.Questions.{start-so, memory-so, look-so}
+use Rattle.calls.proofs.Questions.{start-so, memory-so, look-so}
 
 -- ---- answers
 

@@ -1,4 +1,3 @@
-pub mod Questions
 pub mod Entries
 pub mod Lists
 pub mod Samples

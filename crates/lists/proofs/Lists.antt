@@ -19,7 +19,7 @@ use Rattle.image.proofs.Memory.{held-length, whole-held, holds-fit, fit-holds, 
 use Rattle.calls.specs.Answers.{startMemory, written}
 use Rattle.lists.specs.Forms.{Given, Form, form}
 use Rattle.lists.specs.Lists.{Begins, by-start, stored, Image, Final, Last, Calls, OneFileIn, StoryOf}
-use Rattle.lists.proofs.Questions.{start-so, memory-so, memory-if}
+use Rattle.calls.proofs.Questions.{start-so, memory-so, memory-if}
 use Rattle.lists.proofs.Entries.{Between, owing}
 
 -- the file that the list begins with is accepted

@@ -25,7 +25,8 @@ use Rattle.store.specs.Meaning.{controlIs}
 use Rattle.transitions.specs.declared.Head.{Head}
 use Rattle.transitions.specs.declared.Stepped.{Stepped}
 use Rattle.transitions.specs.declared.Stepped.the-variants.{Went, Full, Returned, Arith, Abort}
-use Rattle.transitions.specs.Comes.{Tells, Bounds, Starts, Cleared, Comes}
+use Rattle.transitions.specs.Comes.{Tells, Bounds, Cleared, Comes}
+use Rattle.starts.specs.Starts.{Starts}
 use Rattle.stepping.specs.Done.{Stands, Done}
 use Rattle.stepping.proofs.Given.{limited}
 use Rattle.machine.specs.declared.Outcome.{Outcome}

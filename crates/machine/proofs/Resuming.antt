@@ -16,7 +16,7 @@ use Rattle.semantics.specs.Fit.{Fit}
 use Rattle.semantics.specs.File.{programOf}
 use Rattle.image.specs.Layout.{filled, controlWords, activation, activationWords}
 use Rattle.image.specs.Image.{savedActivations, savedFrames, headWords, activationsOf, framesOf, image}
-use Rattle.image.specs.Decode.{controlOf, framesHeld, activationsIn}
+use Rattle.image.specs.Decode.{controlOf, framesHeld, heldIn, activationsIn}
 use Rattle.image.specs.Core.{core}
 use Rattle.image.proofs.Parts.{control-back}
 use Rattle.image.proofs.Blocks.{length-filled}
@@ -24,12 +24,11 @@ use Rattle.image.proofs.Images.{length-saved, length-frames, frames-held, activ
 use Rattle.image.proofs.Rooms.{activation-word}
 use Rattle.image.proofs.Heads.{image-rooms, running-word, frame-count}
 use Rattle.image.proofs.Sized.{file-sized, fit-narrow}
-use Rattle.canonical.specs.Words.{heldIn}
-use Rattle.canonical.proofs.Passing.{held-total}
 use Rattle.store.specs.declared.Control as code
 use Rattle.store.specs.Meaning.{controlIs}
 use Rattle.transitions.specs.declared.Head.{Head}
-use Rattle.transitions.specs.Comes.{Tells, Starts}
+use Rattle.transitions.specs.Comes.{Tells}
+use Rattle.starts.specs.Starts.{Starts}
 use Rattle.stepping.specs.Done.{Stands}
 use Rattle.machine.specs.declared.Outcome.{Outcome}
 use Rattle.machine.specs.Runs.{Ends}
@@ -69,7 +68,7 @@ module _ (s : List ℕ) (passed : checkOf s ≡ accepted) (l : List ℕ) (c : Co
     resumed-total =
         let σ = running c calm f η K A in
         let n : a + 1 ≡ getD l 2 0 = omega (arith, here, resumed-count) in
-        let t : heldIn l (a + 1) ≡ total framesHeld (activationsIn l) = ap (heldIn l) n ∙ held-total l (getD l 2 0) in
+        let t : heldIn l (a + 1) ≡ total framesHeld (activationsIn l) = ap (heldIn l) n in
         let u : total framesHeld (activationsIn l) ≡ length (framesOf σ)
         = rw (held, activations-in σ R (fit-narrow (programOf s) (file-sized s passed) σ fit)) (frames-held σ) in
         t ∙ u ∙ length-append K (savedFrames A)

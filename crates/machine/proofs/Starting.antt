@@ -28,7 +28,8 @@ use Rattle.image.proofs.Heads.{Resting, clear-rest}
 use Rattle.store.specs.declared.Control.the-variants.{Exec}
 use Rattle.image.specs.Decode.{refOf}
 use Rattle.store.specs.Meaning.{controlIs}
-use Rattle.transitions.specs.Comes.{Tells, Starts, Cleared}
+use Rattle.transitions.specs.Comes.{Tells, Cleared}
+use Rattle.starts.specs.Starts.{Starts}
 use Rattle.transitions.proofs.Entries.{entered-none}
 use Rattle.stepping.specs.Done.{Stands}
 use Rattle.machine.specs.declared.Outcome.{Outcome}

@@ -1,9 +1,9 @@
 // A run in lent memory: the head of the state is taken out, kept in locals while rules are taken, and put back at the end.
 use arith::signed;
 use records::count_of;
-use records::function_count;
 use records::vars_of;
 use records::wide;
+use starts::starts_of;
 use store::Control;
 use transitions::Head;
 use transitions::Stepped;
@@ -11,7 +11,6 @@ ghost use mathlib.Core.Path.{_≡_};
 ghost use mathlib.Core.List.{List, [], _∷_, _++_};
 ghost use Prim.Native.Nat.{ℕ, _+_, _*_, _-_, _≤_, _<_};
 ghost use lib.ListN.{length, getD};
-ghost use Rattle.records.specs.Parts.{Laid};
 ghost use Rattle.language.specs.Check.{accepted, checkOf};
 ghost use Rattle.semantics.specs.Values as values;
 ghost use Rattle.semantics.specs.Program.{Program};
@@ -23,7 +22,7 @@ ghost use Rattle.semantics.specs.File.{programOf};
 ghost use Rattle.image.specs.Image.{image};
 ghost use Rattle.image.specs.Core.{core};
 ghost use Rattle.store.specs.Meaning.{controlIs};
-ghost use Rattle.transitions.specs.Comes.{Tells, Bounds, Starts, Cleared};
+ghost use Rattle.transitions.specs.Comes.{Tells, Bounds, Cleared};
 ghost use Rattle.stepping.specs.Done.{Stands};
 ghost use Rattle.machine.specs.Runs.{Held, Begins, Proceeds, Ends, Rests};
 
@@ -40,23 +39,6 @@ pub enum Outcome {
 pub struct Ran {
     pub outcome: Outcome,
     pub steps: u64,
-}
-
-// The first byte of each function's part.
-fn starts_of(file: &[u8]) -> [usize; 128]
-    requires { ⌜ Laid (now file) ⌝ }
-    ensures { λ r. ⌜ Starts (now (file .entry)) r ⌝ }
-{
-    let functions = function_count(file);
-    let mut starts = [0usize; 128];
-    let mut f = 0;
-    let mut start = 12 * (1 + functions);
-    while f < functions {
-        starts[f] = start;
-        start += 12 * count_of(file, f);
-        f += 1;
-    }
-    starts
 }
 
 // Puts the head of a running state back.
@@ -203,7 +185,7 @@ fn proceed(file: &[u8], m: &mut [u32], allowed: u64) -> Ran
     let c = store::control_of(m[3], m[4]);
     let function = activation_words::activation_word(m, callers, 0) as usize;
     let frames = activation_words::activation_word(m, callers, 1) as usize;
-    let total = canonical::frames_held(m, callers + 1);
+    let total = activation_words::frames_held(m, callers + 1);
     let h = Head {
         function,
         start: starts[function],

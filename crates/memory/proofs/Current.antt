@@ -15,13 +15,13 @@ use Rattle.words.specs.Stacks.{blockAt, Every}
 use Rattle.semantics.specs.Machine.{calm, main}
 use Rattle.semantics.specs.Run.{looked, lookUp}
 use Rattle.image.specs.Layout.{Activation, activation}
-use Rattle.image.specs.Decode.{valueOf, valuesOf, runningOf, activationsIn, states, stateOf}
+use Rattle.image.specs.Decode.{valueOf, valuesOf, runningOf, activationsTo, activationsIn, states, stateOf}
 use Rattle.image.specs.Narrow.{NarrowActivation}
 use Rattle.image.proofs.Images.{activations-in}
 use Rattle.store.specs.Meaning.{activationAt, variableAt}
 use Rattle.operands.proofs.Counts.{length-values}
 use Rattle.fitness.specs.Held.{Held}
-use Rattle.fitness.specs.Meaning.{variablesIn, activationsTo}
+use Rattle.fitness.specs.Meaning.{variablesIn}
 use Rattle.fitness.proofs.Lists.{activation-in}
 use Rattle.fitness.proofs.Rests as rests
 use Rattle.calls.specs.Answers.{given, valueOr}

@@ -1,16 +1,13 @@
--- The questions of the memory check and of look-up, one after another.
+-- The questions of the memory check and of look-up.
 use mathlib.Core.Path.{_≡_, refl, sym, _∙_}
 use mathlib.Core.Bool.{Bool, true, false, false≢true}
 use mathlib.Core.List.{List, [], _∷_, _++_, append-assoc}
 use Prim.Native.Nat.{ℕ, _≤_, _<_}
-use native.Mathlib.Omega.{arith}
-use lib.Dec.{leb}
 use lib.ListN.{length, drop}
-use borrow.Author.Tests.{le-leb, lt-leb, leb-true}
+use borrow.Author.Tests.{le-leb, lt-leb}
 use Rattle.records.specs.Search.{unless}
-use Rattle.records.specs.declared.Found.the-variants.{At, Nothing}
 use Rattle.words.proofs.Tests.{eq-same}
-use Rattle.language.specs.Check.{accepted, refused, Asked, ask, questions, refuse, put, checkOf}
+use Rattle.language.specs.Check.{accepted, refused, questions, refuse, put, checkOf}
 use Rattle.semantics.specs.Machine.{State}
 use Rattle.semantics.specs.Fit.{Within}
 use Rattle.semantics.specs.Test.{fit}
@@ -24,20 +21,7 @@ use Rattle.image.proofs.Sized.{file-sized, fit-narrow}
 use Rattle.image.proofs.Memory.{held-whole, holds-fit}
 use Rattle.fitness.specs.Held.{Held}
 use Rattle.calls.specs.Answers.{roomFor, imageIn, given, variableIn, memoryAnswer, lookVerdict, told, turned, answered, valueOr, lookAnswer}
-
--- ---- questions put after others
-
-put-last : (qs rs : List Asked) → put qs ≡ accepted → put (qs ++ rs) ≡ put rs
-unfolding put refuse
-put-last [] rs e = refl
-put-last (ask k (At p x) ∷ qs) rs e = let z : _≡_ {A = ℕ} 0 1 = cc in absurd (omega arith)
-put-last (ask k Nothing ∷ qs) rs e = put-last qs rs e
-
-put-early : (qs rs : List Asked) (k p x : ℕ) → put qs ≡ refused k p x → put (qs ++ rs) ≡ refused k p x
-unfolding put refuse
-put-early [] rs k p x e = let z : _≡_ {A = ℕ} 0 1 = cc in absurd (omega arith)
-put-early (ask j (At i y) ∷ qs) rs k p x e = e
-put-early (ask j Nothing ∷ qs) rs k p x e = put-early qs rs k p x e
+use Rattle.calls.proofs.Questions.{put-after, put-early, memory-so, memory-if}
 
 -- ---- question 16
 
@@ -72,52 +56,32 @@ module _ (s m : List ℕ) where
   unfolding checkOf memoryAnswer roomFor put refuse unless
   memory-short e l =
       let b : put (roomFor m ∷ imageIn s m ∷ []) ≡ refused 15 0 0 = rw (lt-leb size (length m) l) in
-      sym (put-last (questions s) (roomFor m ∷ imageIn s m ∷ []) e ∙ b)
+      sym (put-after (questions s) (roomFor m ∷ imageIn s m ∷ []) e ∙ b)
 
   memory-long : checkOf s ≡ accepted → size ≤ length m → memoryAnswer s m ≡ put (imageIn s m ∷ [])
   unfolding checkOf memoryAnswer roomFor put refuse unless
   memory-long e l =
       let b : put (roomFor m ∷ imageIn s m ∷ []) ≡ put (imageIn s m ∷ []) = rw (le-leb size (length m) l) in
-      put-last (questions s) (roomFor m ∷ imageIn s m ∷ []) e ∙ b
+      put-after (questions s) (roomFor m ∷ imageIn s m ∷ []) e ∙ b
 
   pub memory-none : checkOf s ≡ accepted → size ≤ length m → fitWords (programOf s) m ≡ false → refused 16 0 0 ≡ memoryAnswer s m
   unfolding imageIn put refuse unless
   memory-none e l q = sym (memory-long e l ∙ rw q)
 
   pub memory-held : checkOf s ≡ accepted → size ≤ length m → fitWords (programOf s) m ≡ true → accepted ≡ memoryAnswer s m
-  unfolding imageIn put refuse unless
-  memory-held e l q = sym (memory-long e l ∙ rw q)
+  memory-held e l q = sym (memory-if s m e l q)
 
 -- ---- an accepted memory
 
-put-parts : (qs rs : List Asked) → put (qs ++ rs) ≡ accepted → (put qs ≡ accepted) × (put rs ≡ accepted)
-unfolding put refuse
-put-parts [] rs e = (refl, e)
-put-parts (ask k (At p x) ∷ qs) rs e = let z : _≡_ {A = ℕ} 0 1 = cc in absurd (omega arith)
-put-parts (ask k Nothing ∷ qs) rs e = put-parts qs rs e
-
-asked-true : (k : ℕ) (b : Bool) (rs : List Asked) → put (ask k (unless b 0) ∷ rs) ≡ accepted → (b ≡ true) × (put rs ≡ accepted)
-unfolding put refuse unless
-asked-true k true rs e = (refl, e)
-asked-true k false rs e = let z : _≡_ {A = ℕ} 0 1 = cc in absurd (omega arith)
-
 module _ (s m : List ℕ) (e : memoryAnswer s m ≡ accepted) where
-  pub memory-parts : (checkOf s ≡ accepted) × (size ≤ length m) × (fitWords (programOf s) m ≡ true)
-  unfolding checkOf memoryAnswer roomFor imageIn
-  memory-parts =
-      let a = put-parts (questions s) (roomFor m ∷ imageIn s m ∷ []) e in
-      let b = asked-true 15 (leb size (length m)) (imageIn s m ∷ []) (a .1) in
-      let c = asked-true 16 (fitWords (programOf s) m) [] (b .1) in
-      (a .0, leb-true size (length m) (b .0), c .0)
-
   -- it is long enough, and holds a state
   pub room-held : size ≤ length m
-  room-held = memory-parts .1
+  room-held = memory-so s m e .1
 
   pub state-held : Held m
   state-held =
-      let f = holds-fit (programOf s) m (memory-parts .2) in
-      image-held m (f .0, f .1 .within, fit-narrow (programOf s) (file-sized s (memory-parts .0)) (stateOf m) (f .1))
+      let f = holds-fit (programOf s) m (memory-so s m e .2) in
+      image-held m (f .0, f .1 .within, fit-narrow (programOf s) (file-sized s (memory-so s m e .0)) (stateOf m) (f .1))
 
 -- ---- look-up
 
@@ -134,7 +98,7 @@ module _ (s m : List ℕ) (x : ℕ) where
 
   look-late : memoryAnswer s m ≡ accepted → lookVerdict s m x ≡ put (variableIn m x ∷ [])
   unfolding memoryAnswer
-  look-late e = look-parted ∙ put-last (questions s ++ (roomFor m ∷ imageIn s m ∷ [])) (variableIn m x ∷ []) e
+  look-late e = look-parted ∙ put-after (questions s ++ (roomFor m ∷ imageIn s m ∷ [])) (variableIn m x ∷ []) e
 
   pub look-none : memoryAnswer s m ≡ accepted → given (lookUp (stateOf m) x) ≡ false → lookAnswer s m x ≡ turned 17 0 0
   unfolding lookAnswer answered variableIn put refuse unless

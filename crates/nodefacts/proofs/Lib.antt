@@ -1,4 +1,3 @@
 pub mod Parts
 pub mod Sorts
-pub mod Trees
 pub mod Refs

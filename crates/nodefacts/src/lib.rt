@@ -1,7 +1,6 @@
 // Facts of one node of an accepted file: its sort and its type.
 use node_records::kind_at;
 use store::Ref;
-use varset::VarSet;
 ghost use mathlib.Core.Path.{_≡_};
 ghost use mathlib.Core.Bool.{true, _&&_};
 ghost use Prim.Native.Nat.{_*_, _≤_, _<_};
@@ -15,12 +14,6 @@ ghost use Rattle.semantics.specs.File.{programOf};
 ghost use Rattle.semantics.specs.Test.{exprIn, stmtIn};
 ghost use Rattle.store.specs.Meaning.{refIs};
 ghost use Rattle.nodefacts.specs.Part.{Part};
-
-// Whether every read of a statement finds a value, and the variables that have a value after it.
-pub struct Passage {
-    pub ok: bool,
-    pub left: VarSet,
-}
 
 // Whether node i is one of the part's, of a kind from low to high.
 fn is_among(part: &[u8], n: usize, i: u32, low: u8, high: u8) -> bool

@@ -3,19 +3,12 @@ use acceptance::Answer;
 use machine::Outcome;
 use machine::Ran;
 use runs::Reply;
+use texts::put;
+use texts::put_decimal;
+use texts::put_numbered;
+use texts::put_refusal;
 ghost use mathlib.Core.Path.{_≡_};
 ghost use lib.IntN.{natAbs};
-
-// Prints a refusal.
-fn print_refusal(question: u8, place: usize, item: u32) {
-    io::write_all(1, b"refused ");
-    io::print_decimal(1, question as u64);
-    io::write_all(1, b" place ");
-    io::print_decimal(1, place as u64);
-    io::write_all(1, b" item ");
-    io::print_decimal(1, item as u64);
-    io::write_all(1, b"\n");
-}
 
 // How far an int is from zero.
 fn magnitude(v: i32) -> u64
@@ -28,68 +21,60 @@ fn magnitude(v: i32) -> u64
     }
 }
 
-// Prints an int with its sign.
-fn print_int(v: i32) {
+// Puts an int with its sign.
+fn put_int(out: &mut [u8], at: usize, v: i32) -> usize {
     if v < 0 {
-        io::write_all(1, b"-");
+        return put_numbered(out, at, b"-", magnitude(v));
     }
-    io::print_decimal(1, magnitude(v));
+    put_decimal(out, at, magnitude(v))
 }
 
-// Prints an outcome, and its int if it is a value.
-fn print_outcome(outcome: Outcome) {
+// Puts an outcome, and its int if it is a value.
+fn put_outcome(out: &mut [u8], outcome: Outcome) -> usize {
     match outcome {
         Outcome::Value(v) => {
-            io::write_all(1, b"value ");
-            print_int(v);
+            let at = put(out, 0, b"value ");
+            put_int(out, at, v)
         }
-        Outcome::Arith => {
-            io::write_all(1, b"arith");
-        }
-        Outcome::Abort => {
-            io::write_all(1, b"abort");
-        }
-        Outcome::Spent => {
-            io::write_all(1, b"Spent");
-        }
-        Outcome::Full => {
-            io::write_all(1, b"Full");
-        }
+        Outcome::Arith => put(out, 0, b"arith"),
+        Outcome::Abort => put(out, 0, b"abort"),
+        Outcome::Spent => put(out, 0, b"Spent"),
+        Outcome::Full => put(out, 0, b"Full"),
     }
 }
 
-// Prints how a run ended.
-fn print_end(ran: Ran) {
+// Puts how a run ended.
+fn put_end(out: &mut [u8], ran: Ran) -> usize {
     let outcome = ran.outcome;
-    print_outcome(outcome);
-    io::write_all(1, b" steps ");
-    io::print_decimal(1, ran.steps);
-    io::write_all(1, b"\n");
+    let next = put_outcome(out, outcome);
+    let end = put_numbered(out, next, b" steps ", ran.steps);
+    put(out, end, b"\n")
 }
 
-// Starts a file's procedure, runs it and prints the answer.
-fn print_run(file: &[u8]) {
+// Starts a file's procedure, runs it and puts the answer.
+fn put_run(file: &[u8], out: &mut [u8]) -> usize {
     let mut memory = [0u32; 16384];
     if let Answer::Refused {
         question,
         place,
         item,
     } = calls::start(file, &mut memory) {
-        print_refusal(question, place, item);
-        return;
+        return put_refusal(out, 0, question, place, item);
     }
     match runs::run(file, &mut memory, 10000) {
-        Reply::Ended(ran) => print_end(ran),
+        Reply::Ended(ran) => put_end(out, ran),
         Reply::Refused {
             question,
             place,
             item,
-        } => print_refusal(question, place, item),
+        } => put_refusal(out, 0, question, place, item),
     }
 }
 
 fn main() {
     let mut buffer = [0u8; 50701];
     let n = io::read_full(0, &mut buffer);
-    print_run(&buffer[..n]);
+    let mut line = [0u8; 64];
+    let k = put_run(&buffer[..n], &mut line);
+    texts::write_out(&line, k);
 }

@@ -16,7 +16,7 @@ use Rattle.image.specs.Decode.{stateOf}
 use Rattle.image.specs.Memory.{size}
 use Rattle.image.proofs.Memory.{held-whole, holds-fit}
 use Rattle.calls.specs.Answers.{memoryAnswer, answered, written, runFrom, runAnswer, runMemory}
-use Rattle.memory.proofs.Questions.{memory-parts}
+use Rattle.calls.proofs.Questions.{memory-so}
 use Rattle.machine.specs.declared.Ran.{Ran}
 use Rattle.machine.specs.declared.Outcome.{Outcome}
 use Rattle.machine.specs.Runs.{outcomeOf, Held, Ends}
@@ -33,19 +33,19 @@ module _ (s m : List ℕ) (a : ℕ) where
     -- the memory holds a fit state
     pub run-held : Held s m
     run-held =
-        let q = memory-parts s m e in
+        let q = memory-so s m e in
         let h = holds-fit (programOf s) m (q .2) in
         record { passed = q .0; state = stateOf m; rest = drop size m; held = held-whole m (stateOf m) (h .0); fit = h .1 }
 
     pub run-room : 16384 ≤ length m
-    run-room = memory-parts s m e .1
+    run-room = memory-so s m e .1
 
     pub run-accepted : (r : Ran) (l : List ℕ)
         → ((σ : State) (R : List ℕ) → m ≡ image σ ++ R → Fit (programOf s) σ → Ends 0 (runOf (programOf s) a σ) (r .outcome) (r .steps) l R)
         → (Ended r ≡ replyOf (runAnswer s m a)) × (l ≡ runMemory s m a)
     unfolding runAnswer runMemory answered written replyOf runFrom
     run-accepted r l f =
-        let q = memory-parts s m e in
+        let q = memory-so s m e in
         let h = holds-fit (programOf s) m (q .2) in
         let d = f (stateOf m) (drop size m) (held-whole m (stateOf m) (h .0)) (h .1) in
         rw e (ap Ended (same r (d .outcome-is) (d .steps-are)), d .held)

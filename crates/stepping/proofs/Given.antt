@@ -23,7 +23,8 @@ use Rattle.store.specs.declared.Value.{Value}
 use Rattle.store.specs.Meaning.{valueIs}
 use Rattle.topframe.specs.Shows.{Gathers}
 use Rattle.transitions.specs.declared.Head as code
-use Rattle.transitions.specs.Comes.{Tells, Bounds, Starts, Called}
+use Rattle.transitions.specs.Comes.{Tells, Bounds, Called}
+use Rattle.starts.specs.Starts.{Starts}
 use Rattle.transitions.proofs.Steps.{counted, counted-under}
 use Rattle.stepping.specs.Done.{IsInt, IsTruth, Stands}
 use Rattle.stepping.proofs.Sorts.{is-int, is-truth}

@@ -32,7 +32,8 @@ use Rattle.image.specs.Decode.{refOf}
 use Rattle.store.specs.Meaning.{valueIs, controlIs}
 use Rattle.transitions.specs.declared.Head.{Head}
 use Rattle.transitions.specs.declared.Stepped.{Stepped}
-use Rattle.transitions.specs.Comes.{Tells, Bounds, Starts}
+use Rattle.transitions.specs.Comes.{Tells, Bounds}
+use Rattle.starts.proofs.Tables.{part-cut}
 use Rattle.stepping.specs.Done.{Node, Inside, Executes, Stands, Done}
 use Rattle.stepping.proofs.Given.{limited, part-inside}
 
@@ -83,11 +84,7 @@ module _ (s table : List ℕ) (c : Control) (h : Head) (l : List ℕ) (st : Stan
       (omega (arith, t .start, t .count, q .fits (h .function) known), omega (arith, t .count, q .small (h .function) known))
 
   pub cut : take (h .start + 12 * h .count - h .start) (drop (h .start) s) ≡ partOf s (h .function)
-  unfolding partOf
-  cut =
-      let t = st .tells in
-      let n : h .start + 12 * h .count - h .start ≡ 12 * countOf s (h .function) = omega (arith, t .count) in
-      rw (n, t .start)
+  cut = part-cut s (h .function) (st .tells .start) (st .tells .count)
 
   pub bounds : 16384 ≤ length l → Bounds h l
   bounds n = let q = limited (st .tells) (st .fit) in (n, q .0, q .1)

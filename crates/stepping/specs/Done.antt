@@ -18,7 +18,8 @@ use Rattle.store.specs.declared.Value as code
 use Rattle.store.specs.declared.Value.the-variants.{Nothing, Int, Truth}
 use Rattle.transitions.specs.declared.Head.{Head}
 use Rattle.transitions.specs.declared.Stepped.{Stepped}
-use Rattle.transitions.specs.Comes.{Tells, Starts, Comes}
+use Rattle.transitions.specs.Comes.{Tells, Comes}
+use Rattle.starts.specs.Starts.{Starts}
 
 -- a value that is an int, or a bool
 abbrev pub IsInt : code.Value → Type 0

@@ -60,6 +60,16 @@ pub fn put_numbered(out: &mut [u8], at: usize, text: &[u8], n: u64) -> usize
     put_decimal(out, next, n)
 }
 
+// Puts a refusal as a line.
+pub fn put_refusal(out: &mut [u8], at: usize, question: u8, place: usize, item: u32) -> usize
+    ensures { λ r. ⌜ r ≤ length (now (out .exit)) ⌝ }
+{
+    let second = put_numbered(out, at, b"refused ", question as u64);
+    let third = put_numbered(out, second, b" place ", place as u64);
+    let end = put_numbered(out, third, b" item ", item as u64);
+    put(out, end, b"\n")
+}
+
 // Where word k of a list begins: past k semicolons, or at the end.
 pub fn word_start(list: &[u8], k: usize) -> usize
     ensures { λ r. ⌜ r ≤ length (now (list .entry)) ⌝ }

@@ -3,9 +3,9 @@ use mathlib.Core.Path.{_≡_, refl, sym, ap, _∙_}
 use mathlib.Core.List.{List, [], _∷_, _++_}
 use Prim.Native.Nat.{ℕ, suc, _+_, _*_, _-_, _≤_, _<_}
 use native.Mathlib.Omega.{arith}
-use lib.ListN.{length, getD, replicate, length-append}
-use Rattle.records.specs.Fields.{functions, paramsOf, varsOf, countOf}
-use Rattle.records.specs.Parts.{startOf, partOf, Laid}
+use lib.ListN.{length, replicate, length-append}
+use Rattle.records.specs.Fields.{paramsOf, varsOf, countOf}
+use Rattle.records.specs.Parts.{startOf, partOf}
 use Rattle.language.specs.Types as types
 use Rattle.semantics.specs.Values.{Value, nothing, Ty}
 use Rattle.semantics.specs.Program.{Fun}
@@ -19,7 +19,7 @@ use Rattle.store.specs.declared.Control as code
 use Rattle.store.specs.Meaning.{controlIs}
 use Rattle.transitions.specs.declared.Head.{Head}
 use Rattle.transitions.specs.declared.Stepped.the-variants.{Went, Full}
-use Rattle.transitions.specs.Comes.{Tells, Starts, Comes}
+use Rattle.transitions.specs.Comes.{Tells, Comes}
 use Rattle.transitions.proofs.Steps.{on, callers-over}
 
 -- the variables that are no parameters
@@ -72,13 +72,6 @@ pub entered-full : (s : List ℕ) (k : Control) (h : Head) (l R : List ℕ) (f g
 unfolding Comes
 entered-full s k h l R f g η θ J K A t a = (callers-over k calm g θ [] (saved f η K ∷ A) (omega (arith, t .callers)), refl)
 
--- where a part lies
-pub part-laid : (s table : List ℕ) (g st n : ℕ) → Starts s table → g < functions s → st ≡ getD table g 0 → n ≡ countOf s g
-    → (st + 12 * n ≤ length s) × (1 ≤ n) × (n ≤ 4096)
-part-laid s table g st n h k e d =
-    let a = h .1 g k in
-    (omega (arith, a, e, d, h .0 .fits g k), omega (arith, d, h .0 .some g k), omega (arith, d, h .0 .small g k))
-
 -- the callers and the frames of the caller
 module _ {s : List ℕ} {h : Head} {f : ℕ} {J : List Frame} {g : ℕ} {θ : List Value} {L : List Frame} {A : List Saved} (t : Tells s h f J (saved g θ L ∷ A)) where
   pub left-callers : (a : ℕ) → a + 1 ≡ h .callers → a ≡ length A
@@ -87,7 +80,3 @@ module _ {s : List ℕ} {h : Head} {f : ℕ} {J : List Frame} {g : ℕ} {θ : Li
   pub left-under : h .under ≡ length L + length (savedFrames A)
   unfolding savedFrames
   left-under = t .under ∙ length-append L (savedFrames A)
-
--- a function's place in the table, by its number
-pub left-place : (s table : List ℕ) (g r : ℕ) → Starts s table → g < functions s → r ≡ g → getD table r 0 ≡ 12 * startOf s g
-left-place s table g r h k e = rw e (h .1 g k)

@@ -3,9 +3,9 @@ use mathlib.Core.Path.{_≡_}
 use mathlib.Core.Bool.{true, false}
 use mathlib.Core.List.{List, _∷_, _++_}
 use Prim.Native.Nat.{ℕ, _+_, _*_, _≤_, _<_}
-use lib.ListN.{length, getD, replicate}
+use lib.ListN.{length, replicate}
 use Rattle.records.specs.Fields.{functions, countOf}
-use Rattle.records.specs.Parts.{startOf, Laid}
+use Rattle.records.specs.Parts.{startOf}
 use Rattle.semantics.specs.Values.{Value}
 use Rattle.semantics.specs.Machine.{arith, abort, Frame, Saved, saved, calm, State, exception, returned, running}
 use Rattle.semantics.specs.Run.{within}
@@ -29,10 +29,6 @@ pub record Tells (s : List ℕ) (h : Head) (f : ℕ) (K : List Frame) (A : List 
 -- the memory is long enough, and the limits are kept
 abbrev pub Bounds : Head → List ℕ → Type 0
 Bounds h l = (16384 ≤ length l) × (h .callers < 32) × (h .under + h .frames ≤ 512)
-
--- the first byte of each function's part
-abbrev pub Starts : List ℕ → List ℕ → Type 0
-Starts s table = Laid s × ((g : ℕ) → g < functions s → getD table g 0 ≡ 12 * startOf s g)
 
 -- the current function was called by a function of the file
 pub record Called (s : List ℕ) (h : Head) (l : List ℕ) : Type 0 where

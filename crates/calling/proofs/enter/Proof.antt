@@ -7,7 +7,8 @@ use lib.ListN.{length}
 use Rattle.records.specs.Fields.{varsOf}
 use Rattle.store.specs.Meaning.{controlIs, valueIs}
 use Rattle.transitions.proofs.Steps.{counted-under}
-use Rattle.transitions.proofs.Entries.{entered-some, entered-tells, on-is, entered-full, part-laid}
+use Rattle.transitions.proofs.Entries.{entered-some, entered-tells, on-is, entered-full}
+use Rattle.starts.proofs.Tables.{part-laid}
 use borrow.Author.Needs.{needs}
 use Rattle.calling.proofs.enter.Statement.{statement}
 use Rattle.calling.proofs.enter.Tie as tie

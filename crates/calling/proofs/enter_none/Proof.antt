@@ -6,7 +6,8 @@ use Rattle.semantics.specs.Values.{nothing}
 use Rattle.semantics.specs.Machine as machine
 use Rattle.store.specs.Meaning.{controlIs}
 use Rattle.transitions.proofs.Steps.{counted}
-use Rattle.transitions.proofs.Entries.{entered-none, entered-tells, on-is, entered-full, part-laid}
+use Rattle.transitions.proofs.Entries.{entered-none, entered-tells, on-is, entered-full}
+use Rattle.starts.proofs.Tables.{part-laid}
 use borrow.Author.Needs.{needs}
 use Rattle.calling.proofs.enter_none.Statement.{statement}
 use Rattle.calling.proofs.enter_none.Tie as tie

@@ -5,7 +5,8 @@ use native.Mathlib.Omega.{arith}
 use lib.ListN.{length, length-append}
 use Rattle.store.specs.Meaning.{controlIs}
 use Rattle.image.specs.Image.{savedFrames}
-use Rattle.transitions.proofs.Entries.{left-tells, left-callers, left-under, left-place, on-is}
+use Rattle.transitions.proofs.Entries.{left-tells, left-callers, left-under, on-is}
+use Rattle.starts.proofs.Tables.{start-at}
 use borrow.Author.Needs.{needs}
 use Rattle.calling.proofs.leave.Statement.{statement}
 use Rattle.calling.proofs.leave.Tie as tie
@@ -77,7 +78,7 @@ returns c f η J g θ L A R e t =
     let known : g < functions (b .args .file .now) = rw (sym r ∙ o) (q .known) in
     on-is _ _ _ _ _ R _ _ _ θ L A (c .before .before .before .before .before .before .before .before .before .before .before .before .at-hand .ensures) refl
     (c .before .before .before .before .before .leave .ensures f η J g θ L A R e a (omega (arith, u, length-append L (savedFrames A))) (t .frames))
-    (left-tells _ _ f J g θ L A _ _ _ _ _ _ t r (left-place _ (b .args .starts .now) g _ (b .pre .0 .2) known r) (c .before .count-of .ensures .0 ∙ rw r) (omega (arith, b .pre .0 .1)) k refl)
+    (left-tells _ _ f J g θ L A _ _ _ _ _ _ t r (start-at _ (b .args .starts .now) g _ (b .pre .0 .2) known r) (c .before .count-of .ensures .0 ∙ rw r) (omega (arith, b .pre .0 .1)) k refl)
     (search needs) (omega (arith, k, u, b .pre .0 .0 .2))
 
 pub leave-spec : {M : Type 1} → statement M

@@ -6,19 +6,19 @@ use borrow.Author.Tests.{not-true, not-false, ltb-true}
 use Rattle.records.specs.Fields.{functions, countOf}
 use Rattle.records.specs.Parts.{partOf}
 use Rattle.tables.specs.Tables.{Filled}
-use Rattle.words.specs.Segments.{total}
 use Rattle.semantics.specs.File.{programOf, funOf}
-use Rattle.image.specs.Decode.{framesHeld}
+use Rattle.image.specs.Decode.{activationsTo, heldIn}
 use Rattle.frames.proofs.Files.{record-in}
 use Rattle.fitness.specs.Activations.{calls, callersFit}
-use Rattle.fitness.specs.Meaning.{overIs, activationsTo, framesTo}
-use Rattle.fitness.proofs.Lists.{callers-less, callers-more, callers-end, fit-known, total-last, held-last}
+use Rattle.fitness.specs.Meaning.{overIs, framesTo}
+use Rattle.fitness.proofs.Lists.{callers-less, callers-more, callers-end, fit-known, held-last}
+use Rattle.activation_words.proofs.Totals.{total-last}
 use borrow.Author.Needs.{needs}
 use Rattle.fitness.proofs.callers_fit.Statement.{statement}
 use Rattle.fitness.proofs.callers_fit.Tie as tie
 
 abbrev Inv-loop : tie.InvT-loop
-Inv-loop file starts table₀ m n high f a₀ g₀ top₀ table a g top = (a ≤ n) × (g < functions file) × (top ≡ total framesHeld (activationsTo m a)) × (top ≤ 512) × (callersFit (programOf file) f (activationsTo m n) (framesTo m high) ≡ callersFit (programOf file) g (activationsTo m a) (framesTo m top)) × (length table ≡ length table₀) × Filled (partOf file g) table (countOf file g)
+Inv-loop file starts table₀ m n high f a₀ g₀ top₀ table a g top = (a ≤ n) × (g < functions file) × (top ≡ heldIn m a) × (top ≤ 512) × (callersFit (programOf file) f (activationsTo m n) (framesTo m high) ≡ callersFit (programOf file) g (activationsTo m a) (framesTo m top)) × (length table ≡ length table₀) × Filled (partOf file g) table (countOf file g)
 
 abbrev μ-loop : tie.MeasureT-loop
 μ-loop file starts table₀ m n high f a₀ g₀ top₀ table a g top = a

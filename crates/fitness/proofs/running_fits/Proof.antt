@@ -1,5 +1,6 @@
 use Rattle.fitness.proofs.Rests.{fit-rest, few, fewer, some, fits-less, fits-more}
-use Rattle.fitness.proofs.Lists.{fit-known, total-last, held-last}
+use Rattle.fitness.proofs.Lists.{fit-known, held-last}
+use Rattle.activation_words.proofs.Totals.{total-last}
 use Prim.Native.Nat.{_-_}
 use Rattle.fitness.specs.Meaning.{overIs, framesTo}
 use Rattle.fitness.specs.Activations.{at}
@@ -19,8 +20,8 @@ use Rattle.fitness.proofs.running_fits.Lts as lts
 use Rattle.activation_words.proofs.activation_word.Reads as activation-word-reads
 use Rattle.fitness.proofs.activation_fits.Reads as activation-fits-reads
 use Rattle.fitness.proofs.callers_fit.Reads as callers-fit-reads
-use Rattle.fitness.proofs.frames_held.Reads as frames-held-reads
-use Rattle.fitness.proofs.starts_of.Reads as starts-of-reads
+use Rattle.activation_words.proofs.frames_held.Reads as frames-held-reads
+use Rattle.starts.proofs.starts_of.Reads as starts-of-reads
 use Rattle.store.proofs.control_of.Reads as control-of-reads
 
 -- src/lib.rt:303:13
@@ -34,7 +35,7 @@ cast-n c = omega (arith, few (c .before .before .before .before .args .m .now) (
 -- src/lib.rt:304:9
 frames-held-requires : tie.Need-frames-held-requires
 unfolding activationsIn
-frames-held-requires c κs = let a = c .before .before .before .before .args in (c .before .before .before .before .pre .0 .1, few (a .m .now) (c .before .before .before .before .pre .0 .2), fewer (a .m .now) (c .before .before .before .before .pre .0 .2))
+frames-held-requires c κs = let a = c .before .before .before .before .args in (c .before .before .before .before .pre .0 .1, few (a .m .now) (c .before .before .before .before .pre .0 .2))
 
 -- src/lib.rt:305:18
 starts-of-requires : tie.Need-starts-of-requires

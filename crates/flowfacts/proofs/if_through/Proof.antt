@@ -1,6 +1,6 @@
 use Rattle.flowfacts.proofs.Passing.{held-is}
 use Rattle.tables.proofs.Looking.{row-room, condition-row}
-use Rattle.nodefacts.proofs.Trees.{loop-if}
+use Rattle.flowfacts.proofs.Trees.{loop-if}
 use Rattle.nodefacts.proofs.Parts.{inside, loop-above}
 use native.Mathlib.Omega.{arith}
 use mathlib.Core.Path.{refl, _∙_}

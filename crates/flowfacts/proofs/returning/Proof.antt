@@ -1,5 +1,6 @@
 use Rattle.tables.proofs.Looking.{row-room, sums-of, statement-row, body-row}
-use Rattle.nodefacts.proofs.Refs.{node-is, node-within, seq-within, seq-above, nop-returns, node-returns, if-returning, seq-returning}
+use Rattle.nodefacts.proofs.Refs.{node-is, node-within, seq-within}
+use Rattle.flowfacts.proofs.Refs.{seq-above, nop-returns, node-returns, if-returning, seq-returning}
 use native.Mathlib.Omega.{arith}
 use mathlib.Core.Path.{sym, _∙_}
 use borrow.Author.Needs.{needs}

@@ -1,5 +1,5 @@
 use Rattle.tables.proofs.Looking.{row-room, while-row, body-row, body-below}
-use Rattle.nodefacts.proofs.Trees.{loop-seq}
+use Rattle.flowfacts.proofs.Trees.{loop-seq}
 use Rattle.nodefacts.proofs.Parts.{loop-above}
 use native.Mathlib.Omega.{arith}
 use mathlib.Core.Path.{refl}

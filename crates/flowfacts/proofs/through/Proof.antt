@@ -1,5 +1,6 @@
 use Rattle.tables.proofs.Looking.{row-room, statement-row}
-use Rattle.nodefacts.proofs.Refs.{node-is, node-within, if-within, seq-within, nop-flows, node-flows, if-flows, seq-flows}
+use Rattle.nodefacts.proofs.Refs.{node-is, node-within, if-within, seq-within}
+use Rattle.flowfacts.proofs.Refs.{nop-flows, node-flows, if-flows, seq-flows}
 use mathlib.Core.Path.{sym, _∙_}
 use borrow.Author.Needs.{needs}
 use Rattle.flowfacts.proofs.through.Statement.{statement}

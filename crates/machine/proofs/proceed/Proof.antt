@@ -5,7 +5,7 @@ use native.Mathlib.Omega.{arith}
 use native.Mathlib.Nat.{sub-zero}
 use lib.ListN.{length, getD}
 use Rattle.store.specs.Meaning.{activationAt, controlIs}
-use Rattle.transitions.proofs.Entries.{left-place}
+use Rattle.starts.proofs.Tables.{start-at}
 use Rattle.machine.proofs.Starting.{file-laid}
 use Rattle.machine.proofs.Resuming.{resumed-count, resumed-few, resumed-known, resumed-control, resumed-callers, resumed-function, resumed-frames, resumed-total, resumed-tells, resumed-stands, resumed-run}
 use borrow.Author.Needs.{needs}
@@ -14,9 +14,9 @@ use Rattle.machine.proofs.proceed.Tie as tie
 use Rattle.machine.proofs.proceed.Reads as reads
 use Rattle.machine.proofs.proceed.Lts as lts
 use Rattle.heads.proofs.clear_head.Reads as clear-head-reads
-use Rattle.canonical.proofs.frames_held.Reads as frames-held-reads
+use Rattle.activation_words.proofs.frames_held.Reads as frames-held-reads
 use Rattle.machine.proofs.go.Reads as go-reads
-use Rattle.machine.proofs.starts_of.Reads as starts-of-reads
+use Rattle.starts.proofs.starts_of.Reads as starts-of-reads
 use Rattle.records.proofs.count_of.Reads as count-of-reads
 use Rattle.activation_words.proofs.activation_word.Reads as activation-word-reads
 use Rattle.store.proofs.control_of.Reads as control-of-reads
@@ -104,7 +104,7 @@ go-requires c κs =
     let g = c .before .before .before .before .before .before .before .before .before .before .before .activation-word .ensures ∙ resumed-function (b .args .file .now) (p .passed) (b .args .m .now) (p .control) (p .function) (p .variables) (p .frames) (p .callers) (p .rest) (p .held) (p .fit) _ refl _ refl in
     let x = c .before .before .before .before .before .before .before .before .before .activation-word2 .ensures ∙ resumed-frames (b .args .file .now) (p .passed) (b .args .m .now) (p .control) (p .function) (p .variables) (p .frames) (p .callers) (p .rest) (p .held) (p .fit) _ refl _ refl in
     let a = resumed-callers (b .args .file .now) (p .passed) (b .args .m .now) (p .control) (p .function) (p .variables) (p .frames) (p .callers) (p .rest) (p .held) (p .fit) _ refl in
-    let t = resumed-tells (b .args .file .now) (p .passed) (b .args .m .now) (p .control) (p .function) (p .variables) (p .frames) (p .callers) (p .rest) (p .held) (p .fit) _ refl _ _ _ _ _ g (left-place _ (c .before .before .before .before .before .before .before .before .before .before .before .before .before .before .before .before .before .starts-of .result) _ _ (c .before .before .before .before .before .before .before .before .before .before .before .before .before .before .before .before .before .starts-of .ensures) (resumed-known (b .args .file .now) (p .passed) (b .args .m .now) (p .control) (p .function) (p .variables) (p .frames) (p .callers) (p .rest) (p .held) (p .fit)) g) (c .before .before .before .before .before .before .count-of .ensures .0 ∙ rw g) x (ap (λ (w : ℕ). w - c .before .before .before .before .before .before .before .before .before .activation-word2 .result) (c .before .before .before .before .before .before .before .frames-held .ensures)) in (
+    let t = resumed-tells (b .args .file .now) (p .passed) (b .args .m .now) (p .control) (p .function) (p .variables) (p .frames) (p .callers) (p .rest) (p .held) (p .fit) _ refl _ _ _ _ _ g (start-at _ (c .before .before .before .before .before .before .before .before .before .before .before .before .before .before .before .before .before .starts-of .result) _ _ (c .before .before .before .before .before .before .before .before .before .before .before .before .before .before .before .before .before .starts-of .ensures) (resumed-known (b .args .file .now) (p .passed) (b .args .m .now) (p .control) (p .function) (p .variables) (p .frames) (p .callers) (p .rest) (p .held) (p .fit)) g) (c .before .before .before .before .before .before .count-of .ensures .0 ∙ rw g) x (ap (λ (w : ℕ). w - c .before .before .before .before .before .before .before .before .before .activation-word2 .result) (c .before .before .before .before .before .before .before .frames-held .ensures)) in (
       resumed-stands (b .args .file .now) (p .passed) (b .args .m .now) (p .control) (p .function) (p .variables) (p .frames) (p .callers) (p .rest) (p .held) (p .fit) _ refl (c .before .before .before .before .before .before .before .before .before .before .before .before .before .before .before .before .before .starts-of .result) _ _ _ (c .before .before .before .before .before .before .before .before .before .before .before .before .before .before .before .before .before .starts-of .ensures) t (c .before .before .before .before .before .before .before .before .before .before .before .before .before .control-of .ensures ∙ resumed-control (b .args .file .now) (p .passed) (b .args .m .now) (p .control) (p .function) (p .variables) (p .frames) (p .callers) (p .rest) (p .held) (p .fit))
           (c .before .before .before .before .clear-head .ensures (p .control) _ (p .function) (p .variables) (p .frames) (p .callers) (p .rest) (p .held) a),
       omega (arith, c .before .before .before .before .clear-head .kept .0, b .pre .1),
@@ -123,7 +123,7 @@ returns c k f η K A R e fit =
     let g = c .before .before .before .before .before .before .before .before .before .before .before .before .before .before .activation-word .ensures ∙ resumed-function (b .args .file .now) (p .passed) (b .args .m .now) k f η K A R e fit _ refl _ refl in
     let x = c .before .before .before .before .before .before .before .before .before .before .before .before .activation-word2 .ensures ∙ resumed-frames (b .args .file .now) (p .passed) (b .args .m .now) k f η K A R e fit _ refl _ refl in
     let a = resumed-callers (b .args .file .now) (p .passed) (b .args .m .now) k f η K A R e fit _ refl in
-    let t = resumed-tells (b .args .file .now) (p .passed) (b .args .m .now) k f η K A R e fit _ refl _ _ _ _ _ g (left-place _ (c .before .before .before .before .before .before .before .before .before .before .before .before .before .before .before .before .before .before .before .before .starts-of .result) _ _ (c .before .before .before .before .before .before .before .before .before .before .before .before .before .before .before .before .before .before .before .before .starts-of .ensures) (resumed-known (b .args .file .now) (p .passed) (b .args .m .now) k f η K A R e fit) g) (c .before .before .before .before .before .before .before .before .before .count-of .ensures .0 ∙ rw g) x (ap (λ (w : ℕ). w - c .before .before .before .before .before .before .before .before .before .before .before .before .activation-word2 .result) (c .before .before .before .before .before .before .before .before .before .before .frames-held .ensures)) in
+    let t = resumed-tells (b .args .file .now) (p .passed) (b .args .m .now) k f η K A R e fit _ refl _ _ _ _ _ g (start-at _ (c .before .before .before .before .before .before .before .before .before .before .before .before .before .before .before .before .before .before .before .before .starts-of .result) _ _ (c .before .before .before .before .before .before .before .before .before .before .before .before .before .before .before .before .before .before .before .before .starts-of .ensures) (resumed-known (b .args .file .now) (p .passed) (b .args .m .now) k f η K A R e fit) g) (c .before .before .before .before .before .before .before .before .before .count-of .ensures .0 ∙ rw g) x (ap (λ (w : ℕ). w - c .before .before .before .before .before .before .before .before .before .before .before .before .activation-word2 .result) (c .before .before .before .before .before .before .before .before .before .before .frames-held .ensures)) in
     resumed-run _ _ _ _ k f η K A _ _ R (c .before .before .before .before .before .before .before .before .before .before .before .before .before .before .before .before .control-of .ensures ∙ resumed-control (b .args .file .now) (p .passed) (b .args .m .now) k f η K A R e fit) fit
     (λ q. c .before .before .go .ensures f η K A R (c .before .before .before .before .before .before .before .clear-head .ensures k _ f η K A R e a) t q)
 

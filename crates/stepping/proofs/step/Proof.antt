@@ -11,7 +11,7 @@ use Rattle.stepping.specs.Done.{Stands}
 use Rattle.stepping.proofs.Standing.{laid, cut, bounds, evaluates, executes, waiting, nothing-hand, int-hand, truth-hand, stands-val, stands-eval, stands-exec, val-done, eval-done, exec-done}
 use Rattle.stepping.proofs.step.Statement.{statement}
 use Rattle.stepping.proofs.step.Tie as tie
-use Rattle.stepping.proofs.execute.Reads as execute-reads
+use Rattle.stepping.proofs.statements.execute.Reads as execute-reads
 use Rattle.stepping.proofs.give.Reads as give-reads
 use Rattle.stepping.proofs.open.Reads as open-reads
 
