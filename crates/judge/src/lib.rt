@@ -43,18 +43,20 @@ fn call_at(
     let mut j = wide(a_at(part, i)) as usize;
     let mut c = minus(i, 1);
     let mut sum = 0;
+    let mut all = VarSet::empty();
     while 0 < j {
         j -= 1;
         if codes[c] != typing::param_type(file, callee, j) {
             return plain(255, VarSet::empty(), VarSet::empty());
         }
+        all = all.union(nodes::reads_of(reads, c));
         let size = size_at(part, c);
         sum += size;
         c = minus(c, size);
     }
     let found = result_of(file, callee);
     let passes = (found < 3) & nodes::fits(part, i, sum);
-    nodes::guard(passes, plain(found, VarSet::empty(), VarSet::empty()))
+    nodes::guard(passes, plain(found, all, VarSet::empty()))
 }
 
 // A node of any kind.
@@ -129,7 +131,7 @@ fn passes(
     let mut seen = VarSet::empty();
     let mut i = 0;
     while i < n {
-        seen = effects::with_variable(part, i, 9, seen);
+        seen = effects::with_decl(part, i, seen);
         let e = node_at(file, f, part, n, decls, codes, reads, sets, seen, i);
         if e.code == 255 {
             return false;
