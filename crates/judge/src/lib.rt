@@ -7,7 +7,6 @@ use node_records::a_at;
 use node_records::b_at;
 use node_records::kind_at;
 use node_records::size_at;
-use records::Found;
 use records::minus;
 use records::params_of;
 use records::result_of;
@@ -145,16 +144,6 @@ fn passes(
     (body.code == 4) & (size_at(part, last) == n) & effects::is_empty(late.minus(begun))
 }
 
-// Whether a search found nothing.
-fn is_nothing(found: Found) -> bool
-    ensures { λ r. ⌜ (r ≡ true → found ≡ Found.Nothing) ⌝ }
-{
-    match found {
-        Found::At(place, item) => false,
-        Found::Nothing => true,
-    }
-}
-
 // Whether the part of function f, of n nodes, is shown to pass questions 7 to 14.
 pub fn part_passes(
     file: &[u8],
@@ -171,13 +160,10 @@ pub fn part_passes(
     ensures clear { λ r. ⌜ (r ≡ true → Clear (now (file .entry)) f (now (part .entry)) n) ⌝ }
     ensures room { λ r. ⌜ (length (now (codes .exit)) ≡ length (now (codes .entry))) × (length (now (reads .exit)) ≡ length (now (reads .entry))) × (length (now (sets .exit)) ≡ length (now (sets .entry))) ⌝ }
 {
-    if !is_nothing(shape::first_node(file, f, part, n, 7)) {
+    let mut decls = [0usize; 64];
+    if !survey::survey_part(file, f, part, n, &mut decls) {
         return false;
     }
-    if !is_nothing(scopes::first_undeclared(file, f, part, n)) {
-        return false;
-    }
-    let decls = scopes::decl_table(part, n);
     let begun = VarSet::below(wide(params_of(file, f)));
     passes(file, f, part, n, &decls, begun, codes, reads, sets)
 }
