@@ -1,19 +1,19 @@
--- The variables gathered from the nodes of an expression are those that it reads.
+-- An expression reads what its children read, and a variable reads itself.
 use mathlib.Core.Path.{_≡_, refl}
 use mathlib.Core.Bool.{true}
 use mathlib.Core.List.{List}
 use Prim.Native.Nat.{ℕ, zero, suc, _+_, _-_, _≤_, _<_}
 use native.Mathlib.Omega.{arith}
 use native.Mathlib.Decide.{decLt}
-use lib.Dec.{eqb}
-use borrow.Author.Tests.{eqb-true, eq-eqb}
+use borrow.Author.Tests.{eq-eqb}
 use Rattle.varset.specs.Sets.{Set, has, with}
 use Rattle.records.specs.Fields.{kindAt, bAt, sizeAt}
-use Rattle.records.specs.declared.Found.the-variants.{Nothing}
-use Rattle.records.proofs.Bools.{or-more, by}
-use Rattle.language.specs.Statements.{readsFrom, readsOf}
-use Rattle.language.specs.Flow.{missing}
-use Rattle.language.proofs.Flows.{reads-more}
+use Rattle.records.specs.Children.{arityAt, walk, children}
+use Rattle.records.proofs.Bools.{or-more}
+use Rattle.language.specs.Statements.{readsOf}
+use Rattle.language.specs.Nodes.{total}
+use Rattle.language.proofs.Subtrees.{reads-nodes}
+use Rattle.language.proofs.Tiles.{Each}
 use Rattle.effects.specs.Effects.{Sub, Covers}
 use Rattle.effects.proofs.Parts.{or-last}
 
@@ -21,29 +21,31 @@ pub inserted : (r s : ℕ) (x y : ℕ) → has r ≡ with (has s) x → x ≡ y 
 unfolding with
 inserted r s x y e q = (λ z l. rw e (or-more (has s z) _ l), rw (e, q) (or-last (has s y) _ (eq-eqb y y refl)))
 
--- the reads of the nodes from j on, m of them
-covered : (t : List ℕ) (d : Set) (m j : ℕ) → ((k : ℕ) → j ≤ k → k < j + m → kindAt t k ≡ 2 → d (bAt t k) ≡ true) → missing (readsFrom t m j) d ≡ Nothing
-unfolding readsFrom missing
-covered t d zero j h = refl
-covered t d (suc m) j h =
-    let r = covered t d m (suc j) (λ k a b. h k (omega arith) (omega arith)) in
-    by (eqb (kindAt t j) 2) (λ y. rw y (reads-more j (bAt t j) (readsFrom t m (suc j)) d .1 (h j (omega arith) (omega arith) (eqb-true (kindAt t j) 2 y), r))) (λ y. rw y r)
+-- a larger set
+pub covers-more : {r d : Set} (t : List ℕ) (c : ℕ) → Covers (readsOf t c) r → Sub r d → Covers (readsOf t c) d
+covers-more t c h s e g = h e (λ x l. g x (s x l))
 
-module _ (t : List ℕ) (e : ℕ) where
-  -- what the nodes of the expression at e before node i read is in the set
-  abbrev pub Seen : ℕ → ℕ → Type 0
-  Seen i set = (k : ℕ) → e + 1 - sizeAt t e ≤ k → k < i → kindAt t k ≡ 2 → has set (bAt t k) ≡ true
+module _ (t : List ℕ) (r : Set) where
+  -- the expressions at these nodes read what is in r
+  abbrev pub AllCovered : List ℕ → Type 0
+  AllCovered cs = Each (λ c. Covers (readsOf t c) r) cs
 
-  pub seen-first : (i set : ℕ) → i ≡ e + 1 - sizeAt t e → Seen i set
-  seen-first i set q k a b = absurd (omega arith)
-
-  pub seen-next : (i set next : ℕ) → Seen i set → Sub (has set) (has next) → (kindAt t i ≡ 2 → has next (bAt t i) ≡ true) → Seen (i + 1) next
-  seen-next i set next h g o k a b z = go (decLt k i)
+  children-covered : (d : Set) → Sub r d → (m c : ℕ) → AllCovered (walk (sizeAt t) m c) → total (sizeAt t) (walk (sizeAt t) m c) ≤ c + 1
+      → (j : ℕ) → c + 1 - total (sizeAt t) (walk (sizeAt t) m c) ≤ j → j < c + 1 → kindAt t j ≡ 2 → d (bAt t j) ≡ true
+  unfolding walk total
+  children-covered d h zero c e z j a b k = absurd (omega arith)
+  children-covered d h (suc m) c e z j a b k = go (children-covered d h m (c - sizeAt t c) (e .1) (omega arith) j) (decLt j (c + 1 - sizeAt t c))
     where
-      go : Dec (k < i) → has next (bAt t k) ≡ true
-      go (yes m) = g (bAt t k) (h k a m z)
-      go (no m) = let q : k ≡ i = omega arith in rw q (o (rw q at z))
+      go : (c - sizeAt t c + 1 - total (sizeAt t) (walk (sizeAt t) m (c - sizeAt t c)) ≤ j → j < c - sizeAt t c + 1 → kindAt t j ≡ 2 → d (bAt t j) ≡ true) → Dec (j < c + 1 - sizeAt t c) → d (bAt t j) ≡ true
+      go rest (yes l) = rest (omega arith) (omega arith) k
+      go rest (no l) = reads-nodes t d c (omega arith) .0 (e .0 d h) j (omega arith) (omega arith) k
 
-  pub seen-all : (i set : ℕ) → sizeAt t e ≤ e + 1 → e < i → Seen i set → Covers (readsOf t e) (has set)
-  unfolding readsOf
-  seen-all i set l m h d g = covered t d (sizeAt t e) (e + 1 - sizeAt t e) (λ k a b z. g (bAt t k) (h k a (omega arith) z))
+  -- so does their parent, whose own variable is in r where it is one
+  pub node-covered : (i : ℕ) → sizeAt t i ≡ 1 + total (sizeAt t) (children t i) → total (sizeAt t) (children t i) ≤ i → (kindAt t i ≡ 2 → r (bAt t i) ≡ true)
+      → AllCovered (children t i) → Covers (readsOf t i) r
+  unfolding children
+  node-covered i z l own e d h = reads-nodes t d i (omega arith) .1 (λ j a b k. go j a b k (decLt j i))
+    where
+      go : (j : ℕ) → j ≤ i → i < j + sizeAt t i → kindAt t j ≡ 2 → Dec (j < i) → d (bAt t j) ≡ true
+      go j a b k (yes p) = children-covered d h (arityAt t i) (i - 1) e (omega arith) j (omega arith) (omega arith) k
+      go j a b k (no p) = let q : j ≡ i = omega arith in rw q (h (bAt t i) (own (rw q at k)))

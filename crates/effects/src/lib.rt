@@ -1,8 +1,6 @@
 // What a statement reads and sets, from what its parts do: questions 13 and 14 without a walk over the whole body.
 use node_records::b_at;
 use node_records::kind_at;
-use node_records::size_at;
-use records::minus;
 use varset::VarSet;
 ghost use mathlib.Core.Path.{_≡_};
 ghost use mathlib.Core.Bool.{true};
@@ -11,9 +9,8 @@ ghost use mathlib.Core.Logic.{_⊎_};
 ghost use Prim.Native.Nat.{ℕ, _+_, _*_, _≤_, _<_};
 ghost use lib.ListN.{length};
 ghost use Rattle.varset.specs.Sets.{Set, has, none};
-ghost use Rattle.records.specs.Fields.{kindAt, bAt, sizeAt};
-ghost use Rattle.language.specs.Statements.{Statement, Seq, Decl, If, While, Read, readsOf};
-ghost use Rattle.scopes.specs.Counts.{Named};
+ghost use Rattle.records.specs.Fields.{kindAt, bAt};
+ghost use Rattle.language.specs.Statements.{Statement, Seq, Decl, If, While, Read};
 ghost use Rattle.effects.specs.Effects.{Sub, Covers, Means};
 
 // A statement's code, 4 where it returns, 3 where it may not, 255 where it fails; the variables that it may read before it
@@ -24,32 +21,17 @@ pub struct Effect {
     pub sets: VarSet,
 }
 
-// The set with the variable of node i where the node is of that kind.
-pub fn with_variable(part: &[u8], i: usize, kind: u8, set: VarSet) -> VarSet
-    requires { ⌜ (12 * i + 12 ≤ length (now part)) × (kindAt (now part) i ≡ kind → bAt (now part) i < 64) ⌝ }
+// The set with the variable of node i where the node is a decl.
+pub fn with_decl(part: &[u8], i: usize, set: VarSet) -> VarSet
+    requires { ⌜ (12 * i + 12 ≤ length (now part)) × (kindAt (now part) i ≡ 9 → bAt (now part) i < 64) ⌝ }
     ensures grown { λ r. ⌜ Sub (has (set .0)) (has (r .0)) ⌝ }
-    ensures own { λ r. ⌜ (kindAt (now (part .entry)) i ≡ kind → has (r .0) (bAt (now (part .entry)) i) ≡ true) ⌝ }
+    ensures own { λ r. ⌜ (kindAt (now (part .entry)) i ≡ 9 → has (r .0) (bAt (now (part .entry)) i) ≡ true) ⌝ }
 {
-    if kind_at(part, i) == kind {
+    if kind_at(part, i) == 9 {
         set.insert(b_at(part, i))
     } else {
         set
     }
-}
-
-// The variables that the expression at node e reads.
-pub fn read_set(part: &[u8], n: usize, e: usize) -> VarSet
-    requires inside { ⌜ (12 * n ≤ length (now part)) × (e < n) ⌝ }
-    requires named { ⌜ Named (now part) n ⌝ }
-    ensures { λ r. ⌜ (sizeAt (now (part .entry)) e ≤ e + 1 → Covers (readsOf (now (part .entry)) e) (has (r .0))) ⌝ }
-{
-    let mut set = VarSet::empty();
-    let mut i = minus(e + 1, size_at(part, e));
-    while i <= e {
-        set = with_variable(part, i, 2, set);
-        i += 1;
-    }
-    set
 }
 
 // Whether a set has no members.

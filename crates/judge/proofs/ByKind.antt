@@ -18,19 +18,19 @@ use Rattle.judge.specs.Judged.{Leaf, Operator, Single}
 module _ (s : List ℕ) (f : ℕ) (t : List ℕ) (n i : ℕ) where
   pub int-leaf : kindAt t i ≡ 0 → Leaf s f t n i 1
   unfolding arityAt arityOf arities outside usesVariable isExpression typeAt typesOf
-  int-leaf e = record { arity = rw e; plain = inl (omega arith); scoped = rw e; sort = rw e; type = λ l. rw e; small = omega arith }
+  int-leaf e = record { arity = rw e; plain = inl (omega arith); other = λ q. omega arith; scoped = rw e; sort = rw e; type = λ l. rw e; small = omega arith }
 
   pub bool-leaf : kindAt t i ≡ 1 → Leaf s f t n i 2
   unfolding arityAt arityOf arities outside usesVariable isExpression typeAt typesOf
-  bool-leaf e = record { arity = rw e; plain = inl (omega arith); scoped = rw e; sort = rw e; type = λ l. rw e; small = omega arith }
+  bool-leaf e = record { arity = rw e; plain = inl (omega arith); other = λ q. omega arith; scoped = rw e; sort = rw e; type = λ l. rw e; small = omega arith }
 
   pub nop-leaf : kindAt t i ≡ 6 → Leaf s f t n i 3
   unfolding arityAt arityOf arities outside usesVariable isExpression
-  nop-leaf e = record { arity = rw e; plain = inl (omega arith); scoped = rw e; sort = rw e; type = λ l. absurd (omega arith); small = omega arith }
+  nop-leaf e = record { arity = rw e; plain = inl (omega arith); other = λ q. omega arith; scoped = rw e; sort = rw e; type = λ l. absurd (omega arith); small = omega arith }
 
   pub nothing-leaf : kindAt t i ≡ 15 → Leaf s f t n i 0
   unfolding arityAt arityOf arities outside usesVariable isExpression typeAt typesOf
-  nothing-leaf e = record { arity = rw e; plain = inr (omega arith); scoped = rw e; sort = rw e; type = λ l. rw e; small = omega arith }
+  nothing-leaf e = record { arity = rw e; plain = inr (omega arith); other = λ q. omega arith; scoped = rw e; sort = rw e; type = λ l. rw e; small = omega arith }
 
   operator-small : (a : ℕ) → operatorType a < 3
   unfolding operatorType
@@ -46,6 +46,7 @@ module _ (s : List ℕ) (f : ℕ) (t : List ℕ) (n i : ℕ) where
       record {
         arity = rw e;
         low = omega arith;
+        other = λ q. omega arith;
         scoped = rw e;
         sort = rw e;
         type = rw (e, h, q);
@@ -58,7 +59,7 @@ module _ (s : List ℕ) (f : ℕ) (t : List ℕ) (n i : ℕ) where
   pub and-operator : kindAt t i ≡ 4 → Operator s f t n i 2 2
   unfolding arityAt arityOf arities outside usesVariable isExpression typeAt typesOf wantsExpression wantAt wantsOf
   and-operator e =
-      record { arity = rw e; low = omega arith; scoped = rw e; sort = rw e; type = rw e; small = omega arith; wanted = omega arith; sorts = λ k. rw e; types = λ k. rw e }
+      record { arity = rw e; low = omega arith; other = λ q. omega arith; scoped = rw e; sort = rw e; type = rw e; small = omega arith; wanted = omega arith; sorts = λ k. rw e; types = λ k. rw e }
 
   pub return-single : {want : ℕ} → kindAt t i ≡ 12 → want ≡ resultOf s f → Single s f t n i want 4
   unfolding arityAt arityOf arities outside usesVariable isExpression wantsExpression wantAt wantsOf

@@ -30,6 +30,7 @@ judged-more h j =
       scoped = j .scoped;
       sort = j .sort;
       type = j .type;
+      covers = j .covers;
       means = record { reading = j .means .reading; setting = j .means .setting; declared = λ x l. h x (j .means .declared x l); returning = j .means .returning };
     }
 

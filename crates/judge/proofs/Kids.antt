@@ -6,8 +6,8 @@ use Prim.Native.Nat.{ℕ, zero, suc, _+_, _-_, _≤_, _<_}
 use native.Mathlib.Omega.{arith}
 use lib.Dec.{eqb, leb, ltb}
 use borrow.Author.Tests.{eqb-true, leb-true, lt-ltb, le-ltb, eq-eqb}
-use Rattle.varset.specs.Sets.{Set}
-use Rattle.records.specs.Fields.{kindAt, sizeAt}
+use Rattle.varset.specs.Sets.{Set, has}
+use Rattle.records.specs.Fields.{kindAt, bAt, sizeAt}
 use Rattle.records.specs.Children.{arityAt, walk, children}
 use Rattle.records.proofs.Bools.{and-left, and-right}
 use Rattle.language.specs.Sorts.{differ, isExpression, wantsExpression, wrongSort}
@@ -15,6 +15,7 @@ use Rattle.language.specs.Types.{typeAt, wantAt, suits}
 use Rattle.language.specs.Nodes.{total, outside}
 use Rattle.language.specs.Statements.{statementAt}
 use Rattle.effects.specs.Effects.{Means}
+use Rattle.effects.proofs.Covering.{AllCovered, node-covered}
 use Rattle.judge.specs.Judged.{Kid, Kids, Judged}
 
 pub fits-is : (size a sum i : ℕ) → a ≡ size → (eqb a (1 + sum) && leb sum i) ≡ true → (size ≡ 1 + sum) × (sum ≤ i)
@@ -44,10 +45,26 @@ module _ (s : List ℕ) (f : ℕ) (t : List ℕ) (n i : ℕ) where
   unfolding suits
   kid-statement k c code a b j l = record { sort = sort-statement k c code a (j .sort) l; type = rw b }
 
+  -- what an expression with these children reads is in r
+  abbrev pub Gathered : ℕ → List ℕ → Type 0
+  Gathered r cs = (kindAt t i ≡ 2 → has r (bAt t i) ≡ true) × AllCovered t (has r) cs
+
   pub judged : {d : Set} {code r w : ℕ} (cs : List ℕ) → children t i ≡ cs → sizeAt t i ≡ 1 + total (sizeAt t) cs → total (sizeAt t) cs ≤ i → Kids s f t n i cs → outside s f t n i ≡ false
-      → isExpression (kindAt t i) ≡ ltb code 3 → (code < 3 → typeAt s f t n i ≡ code) → Means (statementAt t i) d code r w → Judged s f t n d i code r w
-  judged cs e a b c g h j m =
-      record { size = rw e a; inside = rw e b; kids = rw e c; scoped = g; sort = h; type = j; means = m }
+      → isExpression (kindAt t i) ≡ ltb code 3 → (code < 3 → typeAt s f t n i ≡ code) → (code < 3 → Gathered r cs) → Means (statementAt t i) d code r w
+      → Judged s f t n d i code r w
+  judged {d} {code} {r} {w} cs e a b c g h j o m =
+      let a′ : sizeAt t i ≡ 1 + total (sizeAt t) (children t i) = rw e a in
+      let b′ : total (sizeAt t) (children t i) ≤ i = rw e b in
+      record {
+        size = a′;
+        inside = b′;
+        kids = rw e c;
+        scoped = g;
+        sort = h;
+        type = j;
+        covers = λ l. node-covered t (has r) i a′ b′ (o l .0) (rw e (o l .1));
+        means = m;
+      }
 
   pub no-children : arityAt t i ≡ 0 → children t i ≡ []
   unfolding children walk

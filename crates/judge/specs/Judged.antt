@@ -6,17 +6,17 @@ use mathlib.Core.Logic.{_⊎_}
 use Prim.Native.Nat.{ℕ, _+_, _*_, _≤_, _<_}
 use lib.Dec.{ltb}
 use lib.ListN.{length, getD}
-use Rattle.varset.specs.Sets.{Set}
+use Rattle.varset.specs.Sets.{Set, has}
 use Rattle.records.specs.Fields.{functions, kindAt, aAt, bAt, sizeAt}
 use Rattle.records.specs.Parts.{Laid}
 use Rattle.records.specs.Children.{arityAt, children}
 use Rattle.language.specs.Sorts.{isExpression, wantsExpression, wrongSort}
-use Rattle.language.specs.Statements.{statementAt}
+use Rattle.language.specs.Statements.{readsOf, statementAt}
 use Rattle.language.specs.Types.{typeAt, wantAt, suits}
 use Rattle.language.specs.Nodes.{total, outside}
 use Rattle.language.specs.Known.{Calls}
 use Rattle.scopes.specs.Counts.{Named, Decls}
-use Rattle.effects.specs.Effects.{Means}
+use Rattle.effects.specs.Effects.{Covers, Means}
 
 -- child k of node i is of the sort and of the type that the node wants
 pub record Kid (s : List ℕ) (f : ℕ) (t : List ℕ) (n i k c : ℕ) : Type 0 where
@@ -28,7 +28,7 @@ abbrev pub Kids : List ℕ → ℕ → List ℕ → ℕ → ℕ → List ℕ →
 Kids s f t n i [] = Unit {0}
 Kids s f t n i (c ∷ cs) = Kid s f t n i (length cs) c × Kids s f t n i cs
 
--- node i passes; its code is its type, or 3 or 4 for a statement
+-- node i passes; its code is its type, or 3 or 4 for a statement, and an expression reads no other variables than `reads`
 pub record Judged (s : List ℕ) (f : ℕ) (t : List ℕ) (n : ℕ) (d : Set) (i code reads sets : ℕ) : Type 0 where
   pub size : sizeAt t i ≡ 1 + total (sizeAt t) (children t i)
   pub inside : total (sizeAt t) (children t i) ≤ i
@@ -36,6 +36,7 @@ pub record Judged (s : List ℕ) (f : ℕ) (t : List ℕ) (n : ℕ) (d : Set) (i
   pub scoped : outside s f t n i ≡ false
   pub sort : isExpression (kindAt t i) ≡ ltb code 3
   pub type : code < 3 → typeAt s f t n i ≡ code
+  pub covers : code < 3 → Covers (readsOf t i) (has reads)
   pub means : Means (statementAt t i) d code reads sets
 
 -- what the working arrays say of the first i nodes of a part
@@ -62,10 +63,11 @@ pub record Ready (s : List ℕ) (f : ℕ) (t : List ℕ) (n : ℕ) (decls codes 
   pub filled : Filled s f t n d i codes reads sets
   pub own : kindAt t i ≡ 9 → d (bAt t i) ≡ true
 
--- node i has no children, and its code is `code`
+-- node i, which is no variable, has no children, and its code is `code`
 pub record Leaf (s : List ℕ) (f : ℕ) (t : List ℕ) (n i code : ℕ) : Type 0 where
   pub arity : arityAt t i ≡ 0
   pub plain : (kindAt t i < 7) ⊎ (15 ≤ kindAt t i)
+  pub other : kindAt t i ≡ 2 → ⊥
   pub scoped : outside s f t n i ≡ false
   pub sort : isExpression (kindAt t i) ≡ ltb code 3
   pub type : code < 3 → typeAt s f t n i ≡ code
@@ -75,6 +77,7 @@ pub record Leaf (s : List ℕ) (f : ℕ) (t : List ℕ) (n i code : ℕ) : Type 
 pub record Operator (s : List ℕ) (f : ℕ) (t : List ℕ) (n i want code : ℕ) : Type 0 where
   pub arity : arityAt t i ≡ 2
   pub low : kindAt t i < 7
+  pub other : kindAt t i ≡ 2 → ⊥
   pub scoped : outside s f t n i ≡ false
   pub sort : isExpression (kindAt t i) ≡ true
   pub type : typeAt s f t n i ≡ code

@@ -7,7 +7,6 @@ use node_records::a_at;
 use node_records::b_at;
 use node_records::kind_at;
 use node_records::size_at;
-use records::Found;
 use records::minus;
 use records::params_of;
 use records::result_of;
@@ -43,18 +42,20 @@ fn call_at(
     let mut j = wide(a_at(part, i)) as usize;
     let mut c = minus(i, 1);
     let mut sum = 0;
+    let mut all = VarSet::empty();
     while 0 < j {
         j -= 1;
         if codes[c] != typing::param_type(file, callee, j) {
             return plain(255, VarSet::empty(), VarSet::empty());
         }
+        all = all.union(nodes::reads_of(reads, c));
         let size = size_at(part, c);
         sum += size;
         c = minus(c, size);
     }
     let found = result_of(file, callee);
     let passes = (found < 3) & nodes::fits(part, i, sum);
-    nodes::guard(passes, plain(found, VarSet::empty(), VarSet::empty()))
+    nodes::guard(passes, plain(found, all, VarSet::empty()))
 }
 
 // A node of any kind.
@@ -129,7 +130,7 @@ fn passes(
     let mut seen = VarSet::empty();
     let mut i = 0;
     while i < n {
-        seen = effects::with_variable(part, i, 9, seen);
+        seen = effects::with_decl(part, i, seen);
         let e = node_at(file, f, part, n, decls, codes, reads, sets, seen, i);
         if e.code == 255 {
             return false;
@@ -141,16 +142,6 @@ fn passes(
     let body = nodes::effect_of(codes, reads, sets, last);
     let late = body.reads;
     (body.code == 4) & (size_at(part, last) == n) & effects::is_empty(late.minus(begun))
-}
-
-// Whether a search found nothing.
-fn is_nothing(found: Found) -> bool
-    ensures { λ r. ⌜ (r ≡ true → found ≡ Found.Nothing) ⌝ }
-{
-    match found {
-        Found::At(place, item) => false,
-        Found::Nothing => true,
-    }
 }
 
 // Whether the part of function f, of n nodes, is shown to pass questions 7 to 14.
@@ -169,13 +160,10 @@ pub fn part_passes(
     ensures clear { λ r. ⌜ (r ≡ true → Clear (now (file .entry)) f (now (part .entry)) n) ⌝ }
     ensures room { λ r. ⌜ (length (now (codes .exit)) ≡ length (now (codes .entry))) × (length (now (reads .exit)) ≡ length (now (reads .entry))) × (length (now (sets .exit)) ≡ length (now (sets .entry))) ⌝ }
 {
-    if !is_nothing(shape::first_node(file, f, part, n, 7)) {
+    let mut decls = [0usize; 64];
+    if !survey::survey_part(file, f, part, n, &mut decls) {
         return false;
     }
-    if !is_nothing(scopes::first_undeclared(file, f, part, n)) {
-        return false;
-    }
-    let decls = scopes::decl_table(part, n);
     let begun = VarSet::below(wide(params_of(file, f)));
     passes(file, f, part, n, &decls, begun, codes, reads, sets)
 }

@@ -1,7 +1,6 @@
 // A node of each kind in the pass over a part: its effect, or that it is not known to pass.
 use effects::Effect;
 use effects::plain;
-use effects::read_set;
 use node_records::b_at;
 use node_records::size_at;
 use records::minus;
@@ -26,6 +25,14 @@ pub fn effect_of(codes: &[u8], reads: &[u64], sets: &[u64], k: usize) -> Effect
         reads: VarSet(reads[k]),
         sets: VarSet(sets[k]),
     }
+}
+
+// The variables that the expression at node k reads, as the working array has them.
+pub fn reads_of(reads: &[u64], k: usize) -> VarSet
+    requires { ⌜ k < length (now reads) ⌝ }
+    ensures { λ r. ⌜ r .0 ≡ getD (now (reads .entry)) k 0 ⌝ }
+{
+    VarSet(reads[k])
 }
 
 // Whether the children of node i, of so many nodes together, have room before it and fill its subtree.
@@ -86,10 +93,12 @@ pub fn variable_at(
     requires { ⌜ Ready (now file) f (now part) n (now decls) (now codes) (now reads) (now sets) (has (seen .0)) i × (kindAt (now part) i ≡ 2) ⌝ }
     ensures { λ r. ⌜ (r .code < 255 → Judged (now (file .entry)) f (now (part .entry)) n (has (seen .0)) i (r .code) (r .reads .0) (r .sets .0)) ⌝ }
 {
-    let found = typing::var_type(file, f, part, n, decls, b_at(part, i));
+    let x = b_at(part, i);
+    let found = typing::var_type(file, f, part, n, decls, x);
     let inside = !scopes::strays(file, f, part, n, decls, i);
     let passes = (found < 3) & inside & fits(part, i, 0);
-    guard(passes, plain(found, VarSet::empty(), VarSet::empty()))
+    let own = VarSet::empty().insert(x);
+    guard(passes, plain(found, own, VarSet::empty()))
 }
 
 // An operator or &&.
@@ -115,7 +124,8 @@ pub fn operator_at(
     let a = minus(b, size);
     let fit = fits(part, i, size + size_at(part, a));
     let passes = (codes[a] == want) & (codes[b] == want) & fit;
-    guard(passes, plain(code, VarSet::empty(), VarSet::empty()))
+    let all = reads_of(reads, a).union(reads_of(reads, b));
+    guard(passes, plain(code, all, VarSet::empty()))
 }
 
 // A seq.
@@ -169,7 +179,7 @@ pub fn assign_at(
     let passes = (codes[b] < 3) & typing::is_suited(want, codes[b]) & inside & fit;
     guard(
         passes,
-        plain(3, read_set(part, n, b), VarSet::empty().insert(x)),
+        plain(3, reads_of(reads, b), VarSet::empty().insert(x)),
     )
 }
 
@@ -222,7 +232,7 @@ pub fn branches_at(
     let fit = fits(part, i, size + other + size_at(part, c));
     let first = effect_of(codes, reads, sets, a);
     let second = effect_of(codes, reads, sets, b);
-    let e = effects::in_branches(read_set(part, n, c), first, second);
+    let e = effects::in_branches(reads_of(reads, c), first, second);
     let statements = (3 <= first.code) & (3 <= second.code) & (3 <= e.code);
     guard((codes[c] == 2) & statements & fit, e)
 }
@@ -248,7 +258,7 @@ pub fn loop_at(
     let a = minus(b, size);
     let fit = fits(part, i, size + size_at(part, a));
     let body = effect_of(codes, reads, sets, b);
-    let e = effects::in_loop(read_set(part, n, a), body);
+    let e = effects::in_loop(reads_of(reads, a), body);
     let passes = (codes[a] == 2) & (3 <= body.code) & (3 <= e.code) & fit;
     guard(passes, e)
 }
@@ -274,5 +284,5 @@ pub fn single_at(
     let b = minus(i, 1);
     let fit = fits(part, i, size_at(part, b));
     let passes = (codes[b] < 3) & typing::is_suited(want, codes[b]) & fit;
-    guard(passes, plain(code, read_set(part, n, b), VarSet::empty()))
+    guard(passes, plain(code, reads_of(reads, b), VarSet::empty()))
 }

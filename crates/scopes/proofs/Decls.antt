@@ -15,7 +15,7 @@ use Rattle.records.specs.Fields.{paramsOf, kindAt, bAt}
 use Rattle.language.specs.Scopes.{declaresAt, declCount, declOf, under, usesVariable}
 use Rattle.language.specs.Nodes.{outside}
 use Rattle.language.specs.Known.{Known, namesVariable}
-use Rattle.scopes.specs.Counts.{Named, Counts, Decls}
+use Rattle.scopes.specs.Counts.{Named, Counts, Decls, Noted}
 use Rattle.scopes.specs.declared.Declared.{Declared}
 
 or-false : (a : Bool) → a || false ≡ a
@@ -113,16 +113,15 @@ module _ (t : List ℕ) (i x : ℕ) (d : Declared) (c : Counts t i d) (e : kindA
         twice = rw p (c .twice) ∙ (λ k y. count-on t i 2 (λ m b. leb 2 m) e (λ m. refl) (lt-leb 2 here (omega arith) ∙ sym (lt-leb 2 (suc here) (omega arith))) y k);
       }
 
-pub decls-none : (t : List ℕ) → Decls t 0 (replicate 64 0)
+pub noted-none : (t : List ℕ) → Noted t 0 (replicate 64 0)
 unfolding declOf
-decls-none t x l = getD-replicate 64 x 0 0 l
+noted-none t = (refl, λ x l. getD-replicate 64 x 0 0 l)
 
-pub decls-other : (t table : List ℕ) (i : ℕ) (new : List ℕ) → (length table ≡ 64) × Decls t i table → (kindAt t i ≡ 9 → ⊥) → new ≡ table → (length new ≡ 64) × Decls t (i + 1) new
-decls-other t table i new d h e = rw e (d .0, λ x l. d .1 x l ∙ sym (decl-same t i x (no-decl t i x h)))
+pub noted-other : (t table : List ℕ) (i : ℕ) → Noted t i table → (kindAt t i ≡ 9 → ⊥) → Noted t (i + 1) table
+noted-other t table i d h = (d .0, λ x l. d .1 x l ∙ sym (decl-same t i x (no-decl t i x h)))
 
-pub decls-more : (t table : List ℕ) (i x : ℕ) (new : List ℕ) → (length table ≡ 64) × Decls t i table → kindAt t i ≡ 9 → x ≡ bAt t i → x < 64 → new ≡ set table x i
-    → (length new ≡ 64) × Decls t (i + 1) new
-decls-more t table i x new d e at h q = rw q (length-set table x i ∙ d .0, λ y l. go y l (eqb y x) refl)
+pub noted-more : (t table : List ℕ) (i x : ℕ) → Noted t i table → kindAt t i ≡ 9 → x ≡ bAt t i → x < 64 → Noted t (i + 1) (set table x i)
+noted-more t table i x d e at h = (length-set table x i ∙ d .0, λ y l. go y l (eqb y x) refl)
   where
     go : (y : ℕ) → y < 64 → (b : Bool) → eqb y x ≡ b → getD (set table x i) y 0 ≡ declOf t (i + 1) y
     go y l true q =

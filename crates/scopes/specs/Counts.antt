@@ -4,7 +4,7 @@ use mathlib.Core.List.{List}
 use Prim.Native.Nat.{ℕ, _<_}
 use mathlib.Core.Bool.{true}
 use lib.Dec.{leb}
-use lib.ListN.{getD}
+use lib.ListN.{length, getD}
 use Rattle.varset.specs.Sets.{has}
 use Rattle.records.specs.Fields.{kindAt, bAt}
 use Rattle.language.specs.Known.{namesVariable}
@@ -23,3 +23,7 @@ pub record Counts (t : List ℕ) (i : ℕ) (d : Declared) : Type 0 where
 -- a table of the decls of the variables below 64, among the first n nodes
 abbrev pub Decls : List ℕ → ℕ → List ℕ → Type 0
 Decls t n table = (x : ℕ) → x < 64 → getD table x 0 ≡ declOf t n x
+
+-- so does one of 64 entries, which is being filled
+abbrev pub Noted : List ℕ → ℕ → List ℕ → Type 0
+Noted t n table = (length table ≡ 64) × Decls t n table

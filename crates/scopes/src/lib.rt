@@ -17,7 +17,7 @@ ghost use Rattle.records.specs.Search.{firstOf};
 ghost use Rattle.language.specs.Scopes.{under, usesVariable};
 ghost use Rattle.language.specs.Nodes.{undeclared, firstUndeclared, outside};
 ghost use Rattle.language.specs.Known.{Known};
-ghost use Rattle.scopes.specs.Counts.{Named, Counts, Decls};
+ghost use Rattle.scopes.specs.Counts.{Named, Counts, Decls, Noted};
 
 // The variables declared so far, and those declared more than once.
 pub struct Declared {
@@ -26,7 +26,7 @@ pub struct Declared {
 }
 
 // The same with node i taken in.
-fn count_decl(part: &[u8], i: usize, d: Declared) -> Declared
+pub fn count_decl(part: &[u8], i: usize, d: Declared) -> Declared
     requires inside { ⌜ 12 * i + 12 ≤ length (now part) ⌝ }
     requires narrow { ⌜ (kindAt (now part) i ≡ 9 → bAt (now part) i < 64) ⌝ }
     requires counted { ⌜ Counts (now part) i d ⌝ }
@@ -69,14 +69,12 @@ fn declared_in(part: &[u8], n: usize) -> Declared
     d
 }
 
-// The lowest variable of function f, whose part has n nodes, that is not declared exactly once.
-pub fn first_undeclared(file: &[u8], f: usize, part: &[u8], n: usize) -> Found
+// The lowest variable of function f that is not declared exactly once, where d has the decls of its part, of n nodes.
+pub fn lowest_undeclared(file: &[u8], f: usize, part: &[u8], n: usize, d: Declared) -> Found
     requires laid { ⌜ (12 * (1 + f) + 12 ≤ length (now file)) × (varsOf (now file) f ≤ 64) × (paramsOf (now file) f ≤ 8) ⌝ }
-    requires inside { ⌜ 12 * n ≤ length (now part) ⌝ }
-    requires named { ⌜ Named (now part) n ⌝ }
+    requires counted { ⌜ Counts (now part) n d ⌝ }
     ensures { λ r. ⌜ r ≡ firstUndeclared (lowest (undeclared (now (file .entry)) f (now (part .entry)) n) (varsOf (now (file .entry)) f)) (varsOf (now (file .entry)) f) ⌝ }
 {
-    let d = declared_in(part, n);
     let seen = d.seen;
     let twice = d.twice;
     let own = VarSet::below(wide(vars_of(file, f))).minus(VarSet::below(wide(params_of(file, f))));
@@ -85,6 +83,29 @@ pub fn first_undeclared(file: &[u8], f: usize, part: &[u8], n: usize) -> Found
         Found::At(0, x)
     } else {
         Found::Nothing
+    }
+}
+
+// The lowest variable of function f, whose part has n nodes, that is not declared exactly once.
+pub fn first_undeclared(file: &[u8], f: usize, part: &[u8], n: usize) -> Found
+    requires laid { ⌜ (12 * (1 + f) + 12 ≤ length (now file)) × (varsOf (now file) f ≤ 64) × (paramsOf (now file) f ≤ 8) ⌝ }
+    requires inside { ⌜ 12 * n ≤ length (now part) ⌝ }
+    requires named { ⌜ Named (now part) n ⌝ }
+    ensures { λ r. ⌜ r ≡ firstUndeclared (lowest (undeclared (now (file .entry)) f (now (part .entry)) n) (varsOf (now (file .entry)) f)) (varsOf (now (file .entry)) f) ⌝ }
+{
+    lowest_undeclared(file, f, part, n, declared_in(part, n))
+}
+
+// The table of decls with node i taken in.
+pub fn note_decl(part: &[u8], i: usize, table: &mut [usize; 64])
+    requires inside { ⌜ 12 * i + 12 ≤ length (now part) ⌝ }
+    requires narrow { ⌜ (kindAt (now part) i ≡ 9 → bAt (now part) i < 64) ⌝ }
+    requires told { ⌜ Noted (now part) i (now table) ⌝ }
+    ensures { λ r. ⌜ Noted (now (part .entry)) (i + 1) (now (table .exit)) ⌝ }
+{
+    if kind_at(part, i) == 9 {
+        let x = b_at(part, i) as usize;
+        table[x] = i;
     }
 }
 
@@ -97,10 +118,7 @@ pub fn decl_table(part: &[u8], n: usize) -> [usize; 64]
     let mut table = [0usize; 64];
     let mut i = 0;
     while i < n {
-        if kind_at(part, i) == 9 {
-            let x = b_at(part, i) as usize;
-            table[x] = i;
-        }
+        note_decl(part, i, &mut table);
         i += 1;
     }
     table

@@ -107,7 +107,7 @@ fn fields_ok(file: &[u8], f: usize, kind: u8, a: u8, b: u32) -> bool
 }
 
 // Whether the mark and the fields of node i of function f's part are right.
-fn node_ok(file: &[u8], f: usize, part: &[u8], i: usize) -> bool
+pub fn node_ok(file: &[u8], f: usize, part: &[u8], i: usize) -> bool
     requires heads { ⌜ (12 * (1 + functions (now file)) ≤ length (now file)) × (f < functions (now file)) ⌝ }
     requires inside { ⌜ 12 * i + 12 ≤ length (now part) ⌝ }
     ensures { λ r. ⌜ r ≡ nodeOk (now (file .entry)) f (now (part .entry)) i ⌝ }

@@ -1,33 +1,18 @@
-use Rattle.judge.proofs.Clearing.{seven, part-named, part-known, clear}
-use Rattle.typing.proofs.Tables.{laid-at}
+use Rattle.judge.proofs.Clearing.{part-known, clear}
+use Rattle.scopes.proofs.Decls.{noted-none}
 use borrow.Author.Tests.{not-false}
 use mathlib.Core.Bool.{false≢true}
-use mathlib.Core.Path.{refl, sym, _∙_}
+use mathlib.Core.Path.{refl, _∙_}
 use native.Mathlib.Omega.{arith}
 use borrow.Author.Needs.{needs}
 use Rattle.judge.proofs.part_passes.Statement.{statement}
 use Rattle.judge.proofs.part_passes.Tie as tie
 
-first-node-requires : tie.Need-first-node-requires
-first-node-requires c κs = search needs
-
-is-nothing-requires : tie.Need-is-nothing-requires
-is-nothing-requires c κs = search needs
+survey-part-requires : tie.Need-survey-part-requires
+survey-part-requires c κs = (c .before .before .before .before .before .before .pre .0, (c .before .before .before .before .before .before .pre .1 .0 .0, noted-none _))
 
 returns : tie.Need-returns
 returns c = (λ z. absurd (false≢true z), (refl, refl, refl))
-
-first-undeclared-requires : tie.Need-first-undeclared-requires
-first-undeclared-requires c κs = ((laid-at _ _ _ (c .before .before .before .before .before .before .before .before .pre .0 .0) (c .before .before .before .before .before .before .before .before .pre .0 .1) refl .0, c .before .before .before .before .before .before .before .before .pre .0 .0 .vars _ (c .before .before .before .before .before .before .before .before .pre .0 .1), c .before .before .before .before .before .before .before .before .pre .0 .0 .params _ (c .before .before .before .before .before .before .before .before .pre .0 .1)), (c .before .before .before .before .before .before .before .before .pre .1 .0 .0, part-named _ _ _ _ (c .before .before .before .before .before .before .before .before .pre .0 .0) (c .before .before .before .before .before .before .before .before .pre .0 .1) (seven _ _ _ _ _ (c .before .before .first-node .ensures) (c .before .is-nothing .ensures (not-false _ (c .if1 .left))))))
-
-is-nothing-requires-2 : tie.Need-is-nothing-requires-2
-is-nothing-requires-2 c κs = search needs
-
-returns-2 : tie.Need-returns-2
-returns-2 c = (λ z. absurd (false≢true z), (refl, refl, refl))
-
-decl-table-requires : tie.Need-decl-table-requires
-decl-table-requires c κs = (c .before .before .before .before .before .before .before .before .before .before .before .pre .1 .0 .0, part-named _ _ _ _ (c .before .before .before .before .before .before .before .before .before .before .before .pre .0 .0) (c .before .before .before .before .before .before .before .before .before .before .before .pre .0 .1) (seven _ _ _ _ _ (c .before .before .before .before .before .first-node .ensures) (c .before .before .before .before .is-nothing .ensures (not-false _ (c .before .before .before .if1 .left)))))
 
 params-of-requires : tie.Need-params-of-requires
 params-of-requires c κs = search needs
@@ -36,10 +21,10 @@ wide-requires : tie.Need-wide-requires
 wide-requires c κs = search needs
 
 below-requires : tie.Need-below-requires
-below-requires c κs = omega (arith, c .wide .ensures .0, c .before .params-of .ensures, c .before .before .before .before .before .before .before .before .before .before .before .before .before .before .pre .0 .0 .params _ (c .before .before .before .before .before .before .before .before .before .before .before .before .before .before .pre .0 .1))
+below-requires c κs = omega (arith, c .wide .ensures .0, c .before .params-of .ensures, c .before .before .before .before .before .before .before .before .before .before .pre .0 .0 .params _ (c .before .before .before .before .before .before .before .before .before .before .pre .0 .1))
 
 passes-requires : tie.Need-passes-requires
-passes-requires c κs = ((part-known _ _ _ _ (c .before .before .before .before .before .before .before .before .before .before .before .before .before .before .before .before .before .before .before .pre .0 .0) (c .before .before .before .before .before .before .before .before .before .before .before .before .before .before .before .before .before .before .before .pre .0 .1) (c .before .before .before .before .before .before .before .before .before .before .before .before .before .before .before .before .before .before .before .pre .1 .0 .0) (seven _ _ _ _ _ (c .before .before .before .before .before .before .before .before .before .before .before .before .before .first-node .ensures) (c .before .before .before .before .before .before .before .before .before .before .before .before .is-nothing .ensures (not-false _ (c .before .before .before .before .before .before .before .before .before .before .before .if1 .left)))) (c .before .before .before .before .before .before .before .decl-table .ensures), c .before .before .before .before .before .before .before .before .before .before .before .before .before .before .before .before .before .before .before .pre .1 .0 .1, c .before .before .before .before .before .before .before .before .before .before .before .before .before .before .before .before .before .before .before .pre .1 .0 .2), c .before .before .before .before .before .before .before .before .before .before .before .before .before .before .before .before .before .before .before .pre .1 .1)
+passes-requires c κs = ((part-known _ _ _ _ (c .before .before .before .before .before .before .before .before .before .before .before .before .before .before .before .pre .0 .0) (c .before .before .before .before .before .before .before .before .before .before .before .before .before .before .before .pre .0 .1) (c .before .before .before .before .before .before .before .before .before .before .before .before .before .before .before .pre .1 .0 .0) (c .before .before .before .before .before .before .before .before .survey-part .ensures (not-false _ (c .before .before .before .before .before .before .before .if1 .left))), c .before .before .before .before .before .before .before .before .before .before .before .before .before .before .before .pre .1 .0 .1, c .before .before .before .before .before .before .before .before .before .before .before .before .before .before .before .pre .1 .0 .2), c .before .before .before .before .before .before .before .before .before .before .before .before .before .before .before .pre .1 .1)
 
 same-length : tie.Need-same-length
 same-length c = search needs
@@ -50,20 +35,15 @@ same-length-2 c = search needs
 same-length-3 : tie.Need-same-length-3
 same-length-3 c = search needs
 
-returns-3 : tie.Need-returns-3
-returns-3 c = (λ z. clear _ _ _ _ (c .before .before .before .before .before .before .before .before .before .before .before .below .ensures ∙ rw (c .before .before .before .before .before .before .before .before .before .before .before .before .wide .ensures .0, c .before .before .before .before .before .before .before .before .before .before .before .before .before .params-of .ensures)) (seven _ _ _ _ _ (c .before .before .before .before .before .before .before .before .before .before .before .before .before .before .before .before .before .before .before .before .first-node .ensures) (c .before .before .before .before .before .before .before .before .before .before .before .before .before .before .before .before .before .before .before .is-nothing .ensures (not-false _ (c .before .before .before .before .before .before .before .before .before .before .before .before .before .before .before .before .before .before .if1 .left)))) (sym (c .before .before .before .before .before .before .before .before .before .before .before .before .before .before .before .before .before .first-undeclared .ensures) ∙ c .before .before .before .before .before .before .before .before .before .before .before .before .before .before .before .before .is-nothing2 .ensures (not-false _ (c .before .before .before .before .before .before .before .before .before .before .before .before .before .before .before .if2 .left))) (c .before .before .before .before .before .before .passes .ensures .0 z), c .before .before .before .before .before .before .passes .ensures .1)
+returns-2 : tie.Need-returns-2
+returns-2 c = (λ z. clear _ _ _ _ (c .before .before .before .before .before .before .before .before .before .before .before .below .ensures ∙ rw (c .before .before .before .before .before .before .before .before .before .before .before .before .wide .ensures .0, c .before .before .before .before .before .before .before .before .before .before .before .before .before .params-of .ensures)) (c .before .before .before .before .before .before .before .before .before .before .before .before .before .before .before .survey-part .ensures (not-false _ (c .before .before .before .before .before .before .before .before .before .before .before .before .before .before .if1 .left))) (c .before .before .before .before .before .before .passes .ensures .0 z), c .before .before .before .before .before .before .passes .ensures .1)
 
 pub part-passes-spec : {M : Type 1} → statement M
 part-passes-spec =
     tie.close
     (tie.spec
-    first-node-requires
-    is-nothing-requires
+    survey-part-requires
     returns
-    first-undeclared-requires
-    is-nothing-requires-2
-    returns-2
-    decl-table-requires
     params-of-requires
     wide-requires
     below-requires
@@ -71,4 +51,4 @@ part-passes-spec =
     same-length
     same-length-2
     same-length-3
-    returns-3)
+    returns-2)

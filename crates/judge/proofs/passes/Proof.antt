@@ -24,12 +24,12 @@ empty-requires c κs = search needs
 loop-holds : tie.Need-loop-holds Inv-loop μ-loop
 loop-holds c = (search needs, (refl, refl, refl), filled-none _ _ _ _ _ 0 _ _ _)
 
-with-variable-requires : tie.Need-with-variable-requires Inv-loop μ-loop
+with-decl-requires : tie.Need-with-decl-requires Inv-loop μ-loop
 unfolding namesVariable usesVariable
-with-variable-requires c κs = (omega (arith, c .before .before .before .before .before .before .before .before .pre .0 .0 .inside, c .loop-test .taken), λ z. c .before .before .before .before .before .before .before .before .pre .0 .0 .named _ (c .loop-test .taken) (rw z refl))
+with-decl-requires c κs = (omega (arith, c .before .before .before .before .before .before .before .before .pre .0 .0 .inside, c .loop-test .taken), λ z. c .before .before .before .before .before .before .before .before .pre .0 .0 .named _ (c .loop-test .taken) (rw z refl))
 
 node-at-requires : tie.Need-node-at-requires Inv-loop μ-loop
-node-at-requires c κs = record { part = c .before .before .before .before .before .before .before .before .before .before .before .before .pre .0 .0; below = c .before .before .before .before .loop-test .taken; codeRoom = omega (arith, c .before .before .before .before .before .loop .inv .1 .0, c .before .before .before .before .before .before .before .before .before .before .before .before .pre .1 .0); readRoom = omega (arith, c .before .before .before .before .before .loop .inv .1 .1, c .before .before .before .before .before .before .before .before .before .before .before .before .pre .1 .1); setRoom = omega (arith, c .before .before .before .before .before .loop .inv .1 .2, c .before .before .before .before .before .before .before .before .before .before .before .before .pre .1 .2); filled = filled-more _ _ _ _ _ _ _ _ _ _ (c .before .before .before .with-variable .ensures .0) (c .before .before .before .before .before .loop .inv .2); own = c .before .before .before .with-variable .ensures .1 }
+node-at-requires c κs = record { part = c .before .before .before .before .before .before .before .before .before .before .before .before .pre .0 .0; below = c .before .before .before .before .loop-test .taken; codeRoom = omega (arith, c .before .before .before .before .before .loop .inv .1 .0, c .before .before .before .before .before .before .before .before .before .before .before .before .pre .1 .0); readRoom = omega (arith, c .before .before .before .before .before .loop .inv .1 .1, c .before .before .before .before .before .before .before .before .before .before .before .before .pre .1 .1); setRoom = omega (arith, c .before .before .before .before .before .loop .inv .1 .2, c .before .before .before .before .before .before .before .before .before .before .before .before .pre .1 .2); filled = filled-more _ _ _ _ _ _ _ _ _ _ (c .before .before .before .with-decl .ensures .0) (c .before .before .before .before .before .loop .inv .2); own = c .before .before .before .with-decl .ensures .1 }
 
 same-length : tie.Need-same-length Inv-loop μ-loop
 same-length c = c .before .before .before .before .before .before .before .before .loop .inv .1 .0
@@ -53,7 +53,7 @@ loop-less : tie.Need-loop-less Inv-loop μ-loop
 loop-less c = omega (arith, c .before .before .before .before .before .before .before .before .before .before .before .before .before .before .before .before .before .loop-test .taken)
 
 loop-again : tie.Need-loop-again Inv-loop μ-loop
-loop-again c = (omega (arith, c .before .before .before .before .before .before .before .before .before .before .before .before .before .before .before .before .before .loop-test .taken), (kept-length (c .before .before .before .before .before .before .before .before .before .before .before .before .before .before .before .before .before .before .loop .codes) (c .before .before .before .before .before .before .before .before .before .before .before .before .before .before .before .before .before .before .loop .i) (c .before .before .before .before .before .before .before .before .before .before .before .before .node-at .result .code) (c .before .before .before .before .before .before .keep .ensures .0) (c .before .before .before .before .before .before .before .before .before .before .before .before .before .before .before .before .before .before .loop .inv .1 .0), kept-length (c .before .before .before .before .before .before .before .before .before .before .before .before .before .before .before .before .before .before .loop .reads) (c .before .before .before .before .before .before .before .before .before .before .before .before .before .before .before .before .before .before .loop .i) (c .before .before .before .before .before .before .before .before .before .before .before .before .node-at .result .reads .0) (c .before .before .before .before .before .before .keep .ensures .1) (c .before .before .before .before .before .before .before .before .before .before .before .before .before .before .before .before .before .before .loop .inv .1 .1), kept-length (c .before .before .before .before .before .before .before .before .before .before .before .before .before .before .before .before .before .before .loop .sets) (c .before .before .before .before .before .before .before .before .before .before .before .before .before .before .before .before .before .before .loop .i) (c .before .before .before .before .before .before .before .before .before .before .before .before .node-at .result .sets .0) (c .before .before .before .before .before .before .keep .ensures .2) (c .before .before .before .before .before .before .before .before .before .before .before .before .before .before .before .before .before .before .loop .inv .1 .2)), rw (c .before .before .before .before .before .before .keep .ensures .0, c .before .before .before .before .before .before .keep .ensures .1, c .before .before .before .before .before .before .keep .ensures .2) (filled-next _ _ _ _ _ _ _ _ _ (filled-more _ _ _ _ _ _ _ _ _ _ (c .before .before .before .before .before .before .before .before .before .before .before .before .before .before .before .before .with-variable .ensures .0) (c .before .before .before .before .before .before .before .before .before .before .before .before .before .before .before .before .before .before .loop .inv .2)) (omega (arith, c .before .before .before .before .before .before .before .before .before .before .before .before .before .before .before .before .before .loop-test .taken, c .before .before .before .before .before .before .before .before .before .before .before .before .before .before .before .before .before .before .loop .inv .1 .0, c .before .before .before .before .before .before .before .before .before .before .before .before .before .before .before .before .before .before .before .before .before .before .before .before .before .pre .1 .0)) (omega (arith, c .before .before .before .before .before .before .before .before .before .before .before .before .before .before .before .before .before .loop-test .taken, c .before .before .before .before .before .before .before .before .before .before .before .before .before .before .before .before .before .before .loop .inv .1 .1, c .before .before .before .before .before .before .before .before .before .before .before .before .before .before .before .before .before .before .before .before .before .before .before .before .before .pre .1 .1)) (omega (arith, c .before .before .before .before .before .before .before .before .before .before .before .before .before .before .before .before .before .loop-test .taken, c .before .before .before .before .before .before .before .before .before .before .before .before .before .before .before .before .before .before .loop .inv .1 .2, c .before .before .before .before .before .before .before .before .before .before .before .before .before .before .before .before .before .before .before .before .before .before .before .before .before .pre .1 .2)) (c .before .before .before .before .before .before .before .before .before .before .before .before .node-at .ensures (omega arith))))
+loop-again c = (omega (arith, c .before .before .before .before .before .before .before .before .before .before .before .before .before .before .before .before .before .loop-test .taken), (kept-length (c .before .before .before .before .before .before .before .before .before .before .before .before .before .before .before .before .before .before .loop .codes) (c .before .before .before .before .before .before .before .before .before .before .before .before .before .before .before .before .before .before .loop .i) (c .before .before .before .before .before .before .before .before .before .before .before .before .node-at .result .code) (c .before .before .before .before .before .before .keep .ensures .0) (c .before .before .before .before .before .before .before .before .before .before .before .before .before .before .before .before .before .before .loop .inv .1 .0), kept-length (c .before .before .before .before .before .before .before .before .before .before .before .before .before .before .before .before .before .before .loop .reads) (c .before .before .before .before .before .before .before .before .before .before .before .before .before .before .before .before .before .before .loop .i) (c .before .before .before .before .before .before .before .before .before .before .before .before .node-at .result .reads .0) (c .before .before .before .before .before .before .keep .ensures .1) (c .before .before .before .before .before .before .before .before .before .before .before .before .before .before .before .before .before .before .loop .inv .1 .1), kept-length (c .before .before .before .before .before .before .before .before .before .before .before .before .before .before .before .before .before .before .loop .sets) (c .before .before .before .before .before .before .before .before .before .before .before .before .before .before .before .before .before .before .loop .i) (c .before .before .before .before .before .before .before .before .before .before .before .before .node-at .result .sets .0) (c .before .before .before .before .before .before .keep .ensures .2) (c .before .before .before .before .before .before .before .before .before .before .before .before .before .before .before .before .before .before .loop .inv .1 .2)), rw (c .before .before .before .before .before .before .keep .ensures .0, c .before .before .before .before .before .before .keep .ensures .1, c .before .before .before .before .before .before .keep .ensures .2) (filled-next _ _ _ _ _ _ _ _ _ (filled-more _ _ _ _ _ _ _ _ _ _ (c .before .before .before .before .before .before .before .before .before .before .before .before .before .before .before .before .with-decl .ensures .0) (c .before .before .before .before .before .before .before .before .before .before .before .before .before .before .before .before .before .before .loop .inv .2)) (omega (arith, c .before .before .before .before .before .before .before .before .before .before .before .before .before .before .before .before .before .loop-test .taken, c .before .before .before .before .before .before .before .before .before .before .before .before .before .before .before .before .before .before .loop .inv .1 .0, c .before .before .before .before .before .before .before .before .before .before .before .before .before .before .before .before .before .before .before .before .before .before .before .before .before .pre .1 .0)) (omega (arith, c .before .before .before .before .before .before .before .before .before .before .before .before .before .before .before .before .before .loop-test .taken, c .before .before .before .before .before .before .before .before .before .before .before .before .before .before .before .before .before .before .loop .inv .1 .1, c .before .before .before .before .before .before .before .before .before .before .before .before .before .before .before .before .before .before .before .before .before .before .before .before .before .pre .1 .1)) (omega (arith, c .before .before .before .before .before .before .before .before .before .before .before .before .before .before .before .before .before .loop-test .taken, c .before .before .before .before .before .before .before .before .before .before .before .before .before .before .before .before .before .before .loop .inv .1 .2, c .before .before .before .before .before .before .before .before .before .before .before .before .before .before .before .before .before .before .before .before .before .before .before .before .before .pre .1 .2)) (c .before .before .before .before .before .before .before .before .before .before .before .before .node-at .ensures (omega arith))))
 
 sub-last : tie.Need-sub-last Inv-loop μ-loop
 sub-last c = omega (arith, c .before .before .before .before .before .before .before .before .pre .0 .1)
@@ -90,7 +90,7 @@ passes-spec =
     μ-loop
     empty-requires
     loop-holds
-    with-variable-requires
+    with-decl-requires
     node-at-requires
     same-length
     same-length-2

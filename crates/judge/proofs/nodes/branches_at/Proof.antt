@@ -37,8 +37,8 @@ effect-of-requires c κs = search needs
 effect-of-requires-2 : tie.Need-effect-of-requires-2
 effect-of-requires-2 c κs = search needs
 
-read-set-requires : tie.Need-read-set-requires
-read-set-requires c κs = ((c .before .before .before .before .before .before .before .before .before .before .before .before .before .before .pre .0 .part .inside, omega (arith, c .before .before .before .before .before .before .before .before .before .before .before .before .before .before .pre .0 .below, c .before .before .before .before .minus3 .ensures, c .before .before .before .before .before .before .minus2 .ensures, c .before .before .before .before .before .before .before .before .minus .ensures)), c .before .before .before .before .before .before .before .before .before .before .before .before .before .before .pre .0 .part .named)
+reads-of-requires : tie.Need-reads-of-requires
+reads-of-requires c κs = omega (arith, c .before .before .before .before .before .before .before .before .before .before .before .before .before .before .pre .0 .below, c .before .before .before .before .before .before .before .before .before .before .before .before .before .before .pre .0 .readRoom, c .before .before .before .before .minus3 .ensures, c .before .before .before .before .before .before .minus2 .ensures, c .before .before .before .before .before .before .before .before .minus .ensures)
 
 in-branches-requires : tie.Need-in-branches-requires
 in-branches-requires c κs = search needs
@@ -50,7 +50,7 @@ guard-requires : tie.Need-guard-requires
 guard-requires c κs = search needs
 
 returns : tie.Need-returns
-returns c = λ l. let g = c .guard .ensures l in rw (g .1) (branches-judged _ _ _ _ _ (c .before .before .before .before .before .before .before .before .before .before .before .before .before .before .before .before .before .before .before .before .before .pre .0 .filled) (c .before .before .before .before .before .before .before .before .before .before .before .before .before .before .before .minus .ensures) (c .before .before .before .before .before .before .before .before .before .before .before .before .before .before .size-at .ensures .0) (c .before .before .before .before .before .before .before .before .before .before .before .before .before .minus2 .ensures) (c .before .before .before .before .before .before .before .before .before .before .before .before .size-at2 .ensures .0) _ _ (c .before .before .before .before .before .before .before .before .before .before .before .before .before .before .before .before .before .before .before .before .before .pre .1) (c .before .before .before .before .before .before .before .before .before .before .before .minus3 .ensures) (c .before .before .before .before .before .before .before .before .before .before .size-at3 .ensures .0) (c .before .before .before .before .before .before .before .before .before .fits2 .ensures) (c .before .before .before .before .before .before .before .before .effect-of .ensures _ _ _ _ _ _ (c .before .before .before .before .before .before .before .before .before .before .before .before .before .before .before .before .before .before .before .before .before .pre .0 .filled)) (c .before .before .before .before .before .before .before .effect-of2 .ensures _ _ _ _ _ _ (c .before .before .before .before .before .before .before .before .before .before .before .before .before .before .before .before .before .before .before .before .before .pre .0 .filled)) (g .0) (c .before .before .before .before .before .before .read-set .ensures) (c .before .before .before .before .before .in-branches .ensures))
+returns c = λ l. let g = c .guard .ensures l in rw (g .1) (branches-judged _ _ _ _ _ (c .before .before .before .before .before .before .before .before .before .before .before .before .before .before .before .before .before .before .before .before .before .pre .0 .filled) (c .before .before .before .before .before .before .before .before .before .before .before .before .before .before .before .minus .ensures) (c .before .before .before .before .before .before .before .before .before .before .before .before .before .before .size-at .ensures .0) (c .before .before .before .before .before .before .before .before .before .before .before .before .before .minus2 .ensures) (c .before .before .before .before .before .before .before .before .before .before .before .before .size-at2 .ensures .0) _ _ (c .before .before .before .before .before .before .before .before .before .before .before .before .before .before .before .before .before .before .before .before .before .pre .1) (c .before .before .before .before .before .before .before .before .before .before .before .minus3 .ensures) (c .before .before .before .before .before .before .before .before .before .before .size-at3 .ensures .0) (c .before .before .before .before .before .before .before .before .before .fits2 .ensures) (c .before .before .before .before .before .before .before .before .effect-of .ensures _ _ _ _ _ _ (c .before .before .before .before .before .before .before .before .before .before .before .before .before .before .before .before .before .before .before .before .before .pre .0 .filled)) (c .before .before .before .before .before .before .before .effect-of2 .ensures _ _ _ _ _ _ (c .before .before .before .before .before .before .before .before .before .before .before .before .before .before .before .before .before .before .before .before .before .pre .0 .filled)) (g .0) (c .before .before .before .before .before .before .reads-of .ensures) (c .before .before .before .before .before .in-branches .ensures))
 
 pub branches-at-spec : {M : Type 1} → statement M
 branches-at-spec =
@@ -67,7 +67,7 @@ branches-at-spec =
     fits-requires
     effect-of-requires
     effect-of-requires-2
-    read-set-requires
+    reads-of-requires
     in-branches-requires
     shared-slice-read-guard
     guard-requires

@@ -25,8 +25,8 @@ fits-requires c κs = search needs
 effect-of-requires : tie.Need-effect-of-requires
 effect-of-requires c κs = search needs
 
-read-set-requires : tie.Need-read-set-requires
-read-set-requires c κs = search needs
+reads-of-requires : tie.Need-reads-of-requires
+reads-of-requires c κs = search needs
 
 in-loop-requires : tie.Need-in-loop-requires
 in-loop-requires c κs = search needs
@@ -38,7 +38,7 @@ guard-requires : tie.Need-guard-requires
 guard-requires c κs = search needs
 
 returns : tie.Need-returns
-returns c = λ l. let g = c .guard .ensures l in rw (g .1) (loop-judged _ _ _ _ _ (c .before .before .before .before .before .before .before .before .before .before .before .before .before .before .before .before .before .pre .0 .filled) (c .before .before .before .before .before .before .before .before .before .before .before .minus .ensures) (c .before .before .before .before .before .before .before .before .before .before .size-at .ensures .0) (c .before .before .before .before .before .before .before .before .before .minus2 .ensures) (c .before .before .before .before .before .before .before .before .size-at2 .ensures .0) _ _ (c .before .before .before .before .before .before .before .before .before .before .before .before .before .before .before .before .before .pre .1) (c .before .before .before .before .before .before .before .fits2 .ensures) (c .before .before .before .before .before .before .effect-of .ensures _ _ _ _ _ _ (c .before .before .before .before .before .before .before .before .before .before .before .before .before .before .before .before .before .pre .0 .filled)) (g .0) (c .before .before .before .before .before .read-set .ensures) (c .before .before .before .before .in-loop .ensures))
+returns c = λ l. let g = c .guard .ensures l in rw (g .1) (loop-judged _ _ _ _ _ (c .before .before .before .before .before .before .before .before .before .before .before .before .before .before .before .before .before .pre .0 .filled) (c .before .before .before .before .before .before .before .before .before .before .before .minus .ensures) (c .before .before .before .before .before .before .before .before .before .before .size-at .ensures .0) (c .before .before .before .before .before .before .before .before .before .minus2 .ensures) (c .before .before .before .before .before .before .before .before .size-at2 .ensures .0) _ _ (c .before .before .before .before .before .before .before .before .before .before .before .before .before .before .before .before .before .pre .1) (c .before .before .before .before .before .before .before .fits2 .ensures) (c .before .before .before .before .before .before .effect-of .ensures _ _ _ _ _ _ (c .before .before .before .before .before .before .before .before .before .before .before .before .before .before .before .before .before .pre .0 .filled)) (g .0) (c .before .before .before .before .before .reads-of .ensures) (c .before .before .before .before .in-loop .ensures))
 
 pub loop-at-spec : {M : Type 1} → statement M
 loop-at-spec =
@@ -51,7 +51,7 @@ loop-at-spec =
     add-fits
     fits-requires
     effect-of-requires
-    read-set-requires
+    reads-of-requires
     in-loop-requires
     shared-slice-read-passes
     guard-requires

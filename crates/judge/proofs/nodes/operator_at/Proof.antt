@@ -1,3 +1,4 @@
+use mathlib.Core.Path.{_∙_}
 use Rattle.judge.proofs.Judging.{operator-judged}
 use borrow.Author.Needs.{needs}
 use Rattle.judge.proofs.nodes.operator_at.Statement.{statement}
@@ -27,11 +28,17 @@ shared-slice-read-passes c = search needs
 shared-slice-read-passes-2 : tie.Need-shared-slice-read-passes-2
 shared-slice-read-passes-2 c = search needs
 
+reads-of-requires : tie.Need-reads-of-requires
+reads-of-requires c κs = search needs
+
+reads-of-requires-2 : tie.Need-reads-of-requires-2
+reads-of-requires-2 c κs = search needs
+
+union-requires : tie.Need-union-requires
+union-requires c κs = search needs
+
 empty-requires : tie.Need-empty-requires
 empty-requires c κs = search needs
-
-empty-requires-2 : tie.Need-empty-requires-2
-empty-requires-2 c κs = search needs
 
 plain-requires : tie.Need-plain-requires
 plain-requires c κs = search needs
@@ -40,7 +47,7 @@ guard-requires : tie.Need-guard-requires
 guard-requires c κs = search needs
 
 returns : tie.Need-returns
-returns c = λ l. let g = c .guard .ensures l in rw (g .1, c .before .plain .ensures .0, c .before .plain .ensures .2) (operator-judged _ _ _ _ _ (c .before .before .before .before .before .before .before .before .before .before .before .before .before .before .before .before .pre .0 .filled) (c .before .before .before .before .before .before .before .before .before .before .minus .ensures) (c .before .before .before .before .before .before .before .before .before .size-at .ensures .0) (c .before .before .before .before .before .before .before .before .minus2 .ensures) (c .before .before .before .before .before .before .before .size-at2 .ensures .0) _ (c .before .before .before .before .before .before .before .before .before .before .before .before .before .before .before .before .pre .1) (c .before .before .before .before .before .before .fits2 .ensures) (g .0) (c .before .before .empty2 .ensures))
+returns c = λ l. let g = c .guard .ensures l in rw (g .1, c .before .plain .ensures .0, c .before .plain .ensures .1, c .before .plain .ensures .2) (operator-judged _ _ _ _ _ (c .before .before .before .before .before .before .before .before .before .before .before .before .before .before .before .before .before .before .pre .0 .filled) (c .before .before .before .before .before .before .before .before .before .before .before .before .minus .ensures) (c .before .before .before .before .before .before .before .before .before .before .before .size-at .ensures .0) (c .before .before .before .before .before .before .before .before .before .before .minus2 .ensures) (c .before .before .before .before .before .before .before .before .before .size-at2 .ensures .0) _ (c .before .before .before .before .before .before .before .before .before .before .before .before .before .before .before .before .before .before .pre .1) (c .before .before .before .before .before .before .before .before .fits2 .ensures) (g .0) (c .before .before .before .union .ensures ∙ rw (c .before .before .before .before .before .reads-of .ensures, c .before .before .before .before .reads-of2 .ensures)) (c .before .before .empty .ensures))
 
 pub operator-at-spec : {M : Type 1} → statement M
 operator-at-spec =
@@ -54,8 +61,10 @@ operator-at-spec =
     fits-requires
     shared-slice-read-passes
     shared-slice-read-passes-2
+    reads-of-requires
+    reads-of-requires-2
+    union-requires
     empty-requires
-    empty-requires-2
     plain-requires
     guard-requires
     returns)

@@ -3,6 +3,7 @@ use mathlib.Core.Path.{refl}
 use Rattle.language.specs.Scopes.{usesVariable}
 use Rattle.language.specs.Known.{namesVariable}
 use Rattle.typing.proofs.Tables.{laid-at}
+use Rattle.effects.proofs.Covering.{inserted}
 use Rattle.judge.proofs.Judging.{variable-judged}
 use borrow.Author.Needs.{needs}
 use Rattle.judge.proofs.nodes.variable_at.Statement.{statement}
@@ -25,6 +26,10 @@ fits-requires c κs = search needs
 empty-requires : tie.Need-empty-requires
 empty-requires c κs = search needs
 
+insert-requires : tie.Need-insert-requires
+unfolding namesVariable usesVariable
+insert-requires c κs = rw (c .before .before .before .before .b-at .ensures) (c .before .before .before .before .before .before .before .before .before .before .pre .0 .part .named _ (c .before .before .before .before .before .before .before .before .before .before .pre .0 .below) (rw (c .before .before .before .before .before .before .before .before .before .before .pre .1) refl))
+
 empty-requires-2 : tie.Need-empty-requires-2
 empty-requires-2 c κs = search needs
 
@@ -35,7 +40,7 @@ guard-requires : tie.Need-guard-requires
 guard-requires c κs = search needs
 
 returns : tie.Need-returns
-returns c = λ l. let g = c .guard .ensures l in rw (g .1, c .before .plain .ensures .0, c .before .plain .ensures .2) (variable-judged _ _ _ _ _ _ _ (c .before .before .before .before .before .before .before .before .before .before .before .before .before .pre .1) (c .before .before .before .before .before .before .before .b-at .ensures) (c .before .before .before .before .before .before .var-type .ensures) (c .before .before .before .before .before .strays .ensures) (g .0) (c .before .before .before .before .fits2 .ensures) (c .before .before .empty2 .ensures))
+returns c = λ l. let g = c .guard .ensures l in rw (g .1, c .before .plain .ensures .0, c .before .plain .ensures .1, c .before .plain .ensures .2) (variable-judged _ _ _ _ _ _ _ (c .before .before .before .before .before .before .before .before .before .before .before .before .before .before .pre .1) (c .before .before .before .before .before .before .before .before .b-at .ensures) (c .before .before .before .before .before .before .before .var-type .ensures) (c .before .before .before .before .before .before .strays .ensures) (g .0) (c .before .before .before .before .before .fits2 .ensures) (inserted _ _ _ _ (c .before .before .before .insert .ensures) (c .before .before .before .before .before .before .before .before .b-at .ensures) .1) (c .before .before .empty2 .ensures))
 
 pub variable-at-spec : {M : Type 1} → statement M
 variable-at-spec =
@@ -46,6 +51,7 @@ variable-at-spec =
     strays-requires
     fits-requires
     empty-requires
+    insert-requires
     empty-requires-2
     plain-requires
     guard-requires

@@ -1,7 +1,7 @@
 use mathlib.Core.Bool.{false≢true}
 use borrow.Author.Needs.{needs}
-use Rattle.judge.proofs.is_nothing.Statement.{statement}
-use Rattle.judge.proofs.is_nothing.Tie as tie
+use Rattle.survey.proofs.is_nothing.Statement.{statement}
+use Rattle.survey.proofs.is_nothing.Tie as tie
 
 enum-known-found : tie.Need-enum-known-found
 enum-known-found c = search needs

@@ -1,8 +1,8 @@
 use Rattle.effects.proofs.Covering.{inserted}
 use native.Mathlib.Omega.{arith}
 use borrow.Author.Needs.{needs}
-use Rattle.effects.proofs.with_variable.Statement.{statement}
-use Rattle.effects.proofs.with_variable.Tie as tie
+use Rattle.effects.proofs.with_decl.Statement.{statement}
+use Rattle.effects.proofs.with_decl.Tie as tie
 
 kind-at-requires : tie.Need-kind-at-requires
 kind-at-requires c κs = search needs
@@ -19,6 +19,6 @@ returns c = (inserted _ _ _ _ (c .insert .ensures) (c .before .b-at .ensures) .0
 returns-2 : tie.Need-returns-2
 returns-2 c = (λ x l. l, λ e. absurd (omega arith))
 
-pub with-variable-spec : {M : Type 1} → statement M
-with-variable-spec =
+pub with-decl-spec : {M : Type 1} → statement M
+with-decl-spec =
     tie.close (tie.spec kind-at-requires b-at-requires insert-requires returns returns-2)
