@@ -3,20 +3,34 @@ use mathlib.Core.Path.{_≡_, refl, sym, ap, _∙_}
 use mathlib.Core.Bool.{true, false, false≢true}
 use mathlib.Core.List.{List, [], _∷_, _++_}
 use Prim.Native.Nat.{ℕ, _+_, _*_, _≤_, _<_}
-use lib.ListN.{length}
+use lib.ListN.{length, getD}
 use Rattle.records.specs.Fields.{kindAt, bAt}
+use Rattle.language.specs.Flow.{returns}
 use Rattle.semantics.specs.Values.{Value}
 use Rattle.semantics.specs.Program.{Ref, node, ifOf, seqOf}
-use Rattle.semantics.specs.Machine.{Frame, exec, Saved, calm, running}
+use Rattle.semantics.specs.Machine.{Frame, gather, and, wait, branch, check, exec, Saved, calm, running}
 use Rattle.semantics.specs.Next.{runs, passes}
 use Rattle.semantics.specs.Fit.{Fit}
-use Rattle.semantics.specs.File.{formAt, seeAt, programOf}
+use Rattle.semantics.specs.File.{formAt, seeAt, stmtAt, programOf}
 use Rattle.image.specs.Core.{core}
 use Rattle.image.specs.Decode.{refOf}
+use Rattle.image.specs.Layout.{refWord}
+use Rattle.image.specs.Image.{savedFrames}
+use Rattle.image.proofs.Parts.{ref-back}
+use Rattle.image.proofs.Frames.{top-first}
+use Rattle.store.specs.Meaning.{frameAt}
 use Rattle.transitions.specs.declared.Head.{Head}
 use Rattle.transitions.specs.declared.Stepped.{Stepped}
-use Rattle.transitions.specs.Comes.{Tells, Bounds}
+use Rattle.transitions.specs.Comes.{Tells, Bounds, Comes}
 use Rattle.stepping.specs.Done.{Executes, Done}
+
+-- the word of a statement that waits in the top frame
+pub waits-word : (l : List ℕ) (n f : ℕ) (η : List Value) (r : Ref) (K : List Frame) (A : List Saved) (R : List ℕ) (w : ℕ)
+    → l ≡ core f η (wait r ∷ K) A ++ R → length A < 32 → n ≡ length (K ++ savedFrames A) → w ≡ getD l (frameAt n + 1) 0 → refOf w ≡ r
+unfolding frameAt
+waits-word l n f η r K A R w e few count d =
+    let q : w ≡ refWord r = d ∙ rw e (top-first f η K A R n (4480 + n * 20) few count refl (wait r)) in
+    rw q (ref-back r)
 
 -- the word of nop
 pub ref-nop : (w : ℕ) → w ≡ 0 → refOf w ≡ Ref.nop
@@ -36,13 +50,26 @@ module _ (t l : List ℕ) (h : Head) (r : Ref) (b : Bounds h l) where
 
 module _ (s : List ℕ) (a : Stepped) (h : Head) (l m R : List ℕ) (f : ℕ) (η : List Value) where
   -- nop goes on with what waits
+  waits-done : (K : List Frame) (A : List Saved) → l ≡ core f η K A ++ R → Tells s h f K A → Fit (programOf s) (running (exec Ref.nop) calm f η K A)
+      → ((w : Ref) (L : List Frame) → l ≡ core f η (wait w ∷ L) A ++ R → Tells s h f (wait w ∷ L) A → Comes s a l m R (running (exec w) calm f η L A))
+      → Done s a l m R (passes calm f η K A)
+  unfolding programOf stmtAt returns
+  waits-done [] A i j fit q = absurd (false≢true (fit .proper .returns))
+  waits-done (wait w ∷ L) A i j fit q = q w L i j
+  waits-done (gather k vs ns ∷ L) A i j fit q = absurd (fit .proper .frames .1)
+  waits-done (and n ∷ L) A i j fit q = absurd (fit .proper .frames .1)
+  waits-done (Frame.store x ∷ L) A i j fit q = absurd (fit .proper .frames .1)
+  waits-done (branch x y ∷ L) A i j fit q = absurd (fit .proper .frames .1)
+  waits-done (Frame.leave ∷ L) A i j fit q = absurd (fit .proper .frames .1)
+  waits-done (check ∷ L) A i j fit q = absurd (fit .proper .frames .1)
+  waits-done (Frame.discard ∷ L) A i j fit q = absurd (fit .proper .frames .1)
+
   pub nop-done : (K : List Frame) (A : List Saved) (t : List ℕ) (r : Ref) → r ≡ Ref.nop → l ≡ core f η K A ++ R → Tells s h f K A
       → Fit (programOf s) (running (exec r) calm f η K A)
-      → ((fr : Frame) (L : List Frame) → l ≡ core f η (fr ∷ L) A ++ R → Tells s h f (fr ∷ L) A → Done s a l m R (passes calm f η (fr ∷ L) A))
+      → ((w : Ref) (L : List Frame) → l ≡ core f η (wait w ∷ L) A ++ R → Tells s h f (wait w ∷ L) A → Comes s a l m R (running (exec w) calm f η L A))
       → Done s a l m R (runs (programOf s) (seeAt t r) calm f η K A)
   unfolding seeAt
-  nop-done [] A t r e i j fit q = rw e tt
-  nop-done (fr ∷ L) A t r e i j fit q = rw e (q fr L i j)
+  nop-done K A t r e i j fit q = rw e (waits-done K A i j (rw e at fit) q)
 
 module _ (s : List ℕ) (a : Stepped) (l m R : List ℕ) (f : ℕ) (η : List Value) (K : List Frame) (A : List Saved) (t : List ℕ) (r : Ref) where
   pub node-done : {i : ℕ} → r ≡ node i → Fit (programOf s) (running (exec r) calm f η K A)

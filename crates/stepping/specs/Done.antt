@@ -69,7 +69,7 @@ pub record Stands (s table : List ℕ) (c : Control) (h : Head) (l : List ℕ) :
   pub tells : Tells s h (h .function) frames callers
   pub fit : Fit (programOf s) (running c calm (h .function) variables frames callers)
 
--- the step of a move; from a fit state no move is stuck
+-- the step of a move, which is not stuck
 abbrev pub Done : List ℕ → Stepped → List ℕ → List ℕ → List ℕ → Move → Type 0
-Done s r l m R stuck = Unit {0}
+Done s r l m R stuck = ⊥
 Done s r l m R (goes rule t) = Comes s r l m R t

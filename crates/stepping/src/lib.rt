@@ -210,7 +210,7 @@ fn give(
             let c = gathering::reach(part, l);
             choose(m, h, v, c, Control::Truth(false))
         }
-        Top::Wait(r) => Stepped::Full,
+        Top::Wait(r) => unreachable(),
         Top::Store(x) => transitions::assign(m, h, x, v),
         Top::Branch(a, b) => choose(m, h, v, Control::Exec(a), Control::Exec(b)),
         Top::Leave => depart(file, starts, m, h, v),

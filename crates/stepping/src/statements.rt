@@ -6,7 +6,6 @@ use node_records::prior;
 use records::wide;
 use store::Control;
 use store::Value;
-use topframe::Top;
 use transitions::Head;
 use transitions::Stepped;
 ghost use mathlib.Core.Path.{_≡_};
@@ -19,14 +18,14 @@ ghost use Rattle.language.specs.Check.{accepted, checkOf};
 ghost use Rattle.semantics.specs.Values as values;
 ghost use Rattle.semantics.specs.Program as program;
 ghost use Rattle.semantics.specs.Machine as machine;
-ghost use Rattle.semantics.specs.Machine.{calm, Frame, Saved, running};
+ghost use Rattle.semantics.specs.Machine.{calm, Frame, wait, Saved, running};
 ghost use Rattle.semantics.specs.Next as next;
 ghost use Rattle.semantics.specs.Fit.{Fit};
 ghost use Rattle.semantics.specs.File.{refAt, formAt, seeAt, programOf};
 ghost use Rattle.image.specs.Layout.{refWord};
 ghost use Rattle.image.specs.Decode.{refOf};
 ghost use Rattle.image.specs.Core.{core};
-ghost use Rattle.transitions.specs.Comes.{Tells, Bounds};
+ghost use Rattle.transitions.specs.Comes.{Tells, Bounds, Comes};
 ghost use Rattle.stepping.specs.Done.{inLoop, Executes, Done};
 
 // The word of the statement at node i; nop is one and the same.
@@ -41,24 +40,14 @@ fn ref_word_at(part: &[u8], i: usize) -> u32
     }
 }
 
-// Goes on with the statement that waits.
+// Goes on with the statement that waits in the top frame.
 fn resume(m: &mut [u32], h: Head) -> Stepped
     requires { ⌜ Bounds h (now m) × (1 ≤ h .frames) ⌝ }
-    ensures { λ r. ⌜ ((s : List ℕ) (f : ℕ) (η : List values.Value) (fr : Frame) (K : List Frame) (A : List Saved) (R : List ℕ) → now (m .entry) ≡ core f η (fr ∷ K) A ++ R → Tells s h f (fr ∷ K) A → Done s r (now (m .entry)) (now (m .exit)) R (next.passes calm f η (fr ∷ K) A)) ⌝ }
+    ensures { λ a. ⌜ ((s : List ℕ) (f : ℕ) (η : List values.Value) (r : program.Ref) (K : List Frame) (A : List Saved) (R : List ℕ) → now (m .entry) ≡ core f η (wait r ∷ K) A ++ R → Tells s h f (wait r ∷ K) A → Comes s a (now (m .entry)) (now (m .exit)) R (running (machine.exec r) calm f η K A)) ⌝ }
 {
     let frames = h.frames - 1;
-    let top = topframe::top_frame(m, h.under + frames);
-    match top {
-        Top::Wait(r) => transitions::take_off(m, h, Control::Exec(r)),
-        Top::Operator(o, y, z) => Stepped::Full,
-        Top::Call(g, y, z) => Stepped::Full,
-        Top::And(l) => Stepped::Full,
-        Top::Store(x) => Stepped::Full,
-        Top::Branch(a, b) => Stepped::Full,
-        Top::Leave => Stepped::Full,
-        Top::Assert => Stepped::Full,
-        Top::Discard => Stepped::Full,
-    }
+    let word = frame_words::frame_word(m, h.under + frames, 1);
+    transitions::take_off(m, h, Control::Exec(word))
 }
 
 // Executes the statement at node i.

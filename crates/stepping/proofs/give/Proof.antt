@@ -153,6 +153,14 @@ choose-requires c κs =
 enum-known-top-4 : tie.Need-enum-known-top-4
 enum-known-top-4 c = search needs
 
+-- no value is given to a statement that waits
+unreachable-requires : tie.Need-unreachable-requires
+unreachable-requires c κs =
+    let b = c .before .before .before .before .before .before .before .before .before .before in
+    let x = over (b .args .file .now) (b .args .starts .now) (valueIs (b .args .v)) (b .args .h) (b .args .m .now) (b .pre .0) in
+    let v = c .before .before .before .top-frame .ensures _ (x .variables) (x .top) (x .frames) (x .callers) (x .rest) (x .held) (few (b .args .file .now) (b .args .starts .now) (b .args .v) (b .args .h) (b .args .m .now) x) (under (b .args .file .now) (b .args .starts .now) (b .args .v) (b .args .h) (b .args .m .now) x) in
+    (rw (is-wait _ _ v _ (c .before .top4 .given .1)) at (x .fit)) .proper .frames
+
 -- src/lib.rt:293:20
 enum-known-top-5 : tie.Need-enum-known-top-5
 enum-known-top-5 c = search needs
@@ -261,13 +269,7 @@ same-length-6 c = search needs
 
 -- src/lib.rt:269:1
 returns-6 : tie.Need-returns-6
-unfolding controlIs refOf valueIs
-returns-6 c f η fr K A R e t fit =
-    let b = c .before .before .before .before .before .before .before .before .before .before in
-    let x = over (b .args .file .now) (b .args .starts .now) (valueIs (b .args .v)) (b .args .h) (b .args .m .now) (b .pre .0) in
-    let p = x .passed in
-    let w = c .before .before .before .top-frame .ensures f η fr K A R e (omega (arith, limited t fit .0, t .callers)) (counted-under t (b .args .h .frames - 1) (omega (arith, t .frames))) in
-    rw (is-wait _ _ w _ (c .before .top4 .given .1)) tt
+returns-6 c = search needs
 
 -- src/lib.rt:269:1
 same-length-7 : tie.Need-same-length-7
@@ -361,6 +363,7 @@ give-spec =
     reach-requires
     choose-requires
     enum-known-top-4
+    unreachable-requires
     enum-known-top-5
     assign-requires
     enum-known-top-6

@@ -19,7 +19,7 @@ same-length : tie.Need-same-length
 same-length c = search needs
 
 returns : tie.Need-returns
-returns c s f η K A R e t pass part fit = nop-done _ _ _ _ _ R f η K A _ _ (ref-nop _ (c .before .before .before .before .if1 .taken)) e t fit (λ fr L i j. c .before .before .resume .ensures s f η fr L A R i j)
+returns c s f η K A R e t pass part fit = nop-done _ _ _ _ _ R f η K A _ _ (ref-nop _ (c .before .before .before .before .if1 .taken)) e t fit (λ w L i j. c .before .before .resume .ensures s f η w L A R i j)
 
 sub-n : tie.Need-sub-n
 sub-n c = search needs
