@@ -11,6 +11,7 @@ use Rattle.records.proofs.Parts.{part-taken, part-length, part-fits}
 use Rattle.language.specs.Check.{accepted, partQuestions, put}
 use Rattle.language.proofs.Accept.{none-asked, asked-part}
 use Rattle.judge.specs.Passed.{Clear}
+use Rattle.acceptance.specs.Stages.{PartsWithin}
 
 module _ (s : List ℕ) where
   -- the parts of the first f functions pass
@@ -23,6 +24,10 @@ module _ (s : List ℕ) where
   pub cleared-all : (f F : ℕ) → F ≡ functions s → F ≤ f → Cleared f → put (partQuestions s 8 7) ≡ accepted
   cleared-all f F e l h = asked-part s 8 7 (λ q p r. none-asked s q (λ k m. h .at k (omega arith) q p (omega arith)))
 
+-- the parts of a file of at most k records have at most k nodes
+pub short-within : (s : List ℕ) (k : ℕ) → Laid s → length s ≤ 12 * k → PartsWithin s k
+short-within s k laid h f l = omega (arith, laid .fits f l)
+
 module _ (s : List ℕ) (laid : Laid s) {F f start n : ℕ} (e : F ≡ functions s) (l : f < F) (a : start ≡ startOf s f) (b : n ≡ countOf s f) where
   known-function : f < functions s
   known-function = rw e at l
@@ -32,6 +37,9 @@ module _ (s : List ℕ) (laid : Laid s) {F f start n : ℕ} (e : F ≡ functions
 
   pub part-room : 12 * (start + n) ≤ length s
   part-room = part-fits s f a b laid known-function
+
+  pub part-within : (k : ℕ) → PartsWithin s k → n ≤ k
+  part-within k h = omega (arith, h f known-function)
 
   pub part-asks : (Laid s × (f < functions s)) × ((12 * n ≤ length taken) × (1 ≤ n) × (n ≤ 4096))
   part-asks =

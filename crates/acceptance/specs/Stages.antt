@@ -1,7 +1,7 @@
 -- The questions from 4 on, and the facts that the questions from 10 on lean on.
 use mathlib.Core.Bool.{not}
 use mathlib.Core.List.{List, [], _∷_}
-use Prim.Native.Nat.{ℕ, _<_}
+use Prim.Native.Nat.{ℕ, _≤_, _<_}
 use Rattle.records.specs.Fields.{functions, countOf}
 use Rattle.records.specs.Parts.{partOf}
 use Rattle.records.specs.Search.{firstOf, shift, unless}
@@ -20,3 +20,7 @@ fromFour s =
 -- past question 9 the nodes of every function are known
 abbrev pub Ready : List ℕ → ℕ → Type 0
 Ready s q = 9 < q → (f : ℕ) → f < functions s → Known (partOf s f) (countOf s f) × Calls (functions s) (partOf s f) (countOf s f)
+
+-- no part has more than k nodes
+abbrev pub PartsWithin : List ℕ → ℕ → Type 0
+PartsWithin s k = (f : ℕ) → f < functions s → countOf s f ≤ k

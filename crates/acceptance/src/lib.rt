@@ -17,7 +17,7 @@ ghost use Rattle.language.specs.Nodes.{answers};
 ghost use Rattle.language.specs.Check.{accepted, put, partQuestions, inPart, checkOf};
 ghost use Rattle.language.specs.Known.{Known, Calls};
 ghost use Rattle.acceptance.specs.Answers.{says, Small};
-ghost use Rattle.acceptance.specs.Stages.{fromFour, Ready};
+ghost use Rattle.acceptance.specs.Stages.{fromFour, Ready, PartsWithin};
 
 // Accepted, or refused by question, place and item.
 pub enum Answer {
@@ -91,7 +91,7 @@ fn first_in_parts(file: &[u8], q: u8) -> Found
 // Whether each part is shown to pass questions 7 to 14, by one pass over its nodes.
 fn parts_pass(file: &[u8], codes: &mut [u8], reads: &mut [u64], sets: &mut [u64]) -> bool
     requires laid { ⌜ Laid (now file) ⌝ }
-    requires room { ⌜ (length (now file) ≤ 12 * length (now codes)) × (length (now file) ≤ 12 * length (now reads)) × (length (now file) ≤ 12 * length (now sets)) ⌝ }
+    requires room { ⌜ PartsWithin (now file) (length (now codes)) × PartsWithin (now file) (length (now reads)) × PartsWithin (now file) (length (now sets)) ⌝ }
     ensures { λ r. ⌜ (r ≡ true → put (partQuestions (now (file .entry)) 8 7) ≡ accepted) ⌝ }
 {
     let functions = function_count(file);
@@ -110,27 +110,27 @@ fn parts_pass(file: &[u8], codes: &mut [u8], reads: &mut [u64], sets: &mut [u64]
     true
 }
 
-// The same, with working arrays that have room for the nodes.
+// The same, with working arrays that have room for the nodes; every node's type is unset at first.
 fn file_passes(file: &[u8]) -> bool
     requires { ⌜ Laid (now file) × (length (now file) ≤ 50700) ⌝ }
     ensures { λ r. ⌜ (r ≡ true → put (partQuestions (now (file .entry)) 8 7) ≡ accepted) ⌝ }
 {
     if file.len() <= 3072 {
-        let mut codes = [0u8; 256];
+        let mut types = [255u8; 256];
         let mut reads = [0u64; 256];
         let mut sets = [0u64; 256];
-        return parts_pass(file, &mut codes, &mut reads, &mut sets);
+        return parts_pass(file, &mut types, &mut reads, &mut sets);
     }
     if file.len() <= 12288 {
-        let mut codes = [0u8; 1024];
+        let mut types = [255u8; 1024];
         let mut reads = [0u64; 1024];
         let mut sets = [0u64; 1024];
-        return parts_pass(file, &mut codes, &mut reads, &mut sets);
+        return parts_pass(file, &mut types, &mut reads, &mut sets);
     }
-    let mut codes = [0u8; 4225];
-    let mut reads = [0u64; 4225];
-    let mut sets = [0u64; 4225];
-    parts_pass(file, &mut codes, &mut reads, &mut sets)
+    let mut types = [255u8; 4096];
+    let mut reads = [0u64; 4096];
+    let mut sets = [0u64; 4096];
+    parts_pass(file, &mut types, &mut reads, &mut sets)
 }
 
 // Questions 7 to 14.

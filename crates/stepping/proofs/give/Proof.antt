@@ -1,31 +1,18 @@
 use Rattle.semantics.specs.File.{programOf}
-use mathlib.Core.Path.{_≡_, refl, sym, ap, _∙_}
+use mathlib.Core.Path.{ap, _∙_}
 use native.Mathlib.Omega.{arith}
-use Prim.Native.Nat.{ℕ, _+_, _-_, _≤_, _<_}
+use Prim.Native.Nat.{_-_}
 use Rattle.records.specs.Parts.{partOf}
 use Rattle.semantics.specs.Machine.{Rule}
 use Rattle.image.specs.Decode.{refOf}
 use Rattle.store.specs.Meaning.{valueIs, controlIs}
 use Rattle.transitions.proofs.Steps.{counted-under}
-use Rattle.stepping.proofs.Leaves.{pos}
 use Rattle.stepping.proofs.Views.{is-operator, is-call, is-and, is-wait, is-store, is-branch, is-leave, is-assert, is-discard}
-use Rattle.stepping.proofs.Given.{Over, over, limited, framed, bounded, few, under, operate-ready, operand-ready, enter-ready, and-ready, store-ready, leave-main-ready, leave-ready, branch-ready, part-inside}
+use Rattle.stepping.proofs.Given.{over, limited, framed, bounded, few, under, operate-ready, operand-ready, enter-ready, and-ready, store-ready, leave-main-ready, leave-ready, branch-ready, part-inside}
 use Rattle.stepping.proofs.Gave.{gave-operator, gave-next, gave-call, gave-and, gave-store, gave-branch, gave-leave, gave-assert, gave-discard}
 use borrow.Author.Needs.{needs}
 use Rattle.stepping.proofs.give.Statement.{statement}
 use Rattle.stepping.proofs.give.Tie as tie
-use Rattle.stepping.proofs.give.Reads as reads
-use Rattle.stepping.proofs.give.Lts as lts
-use Rattle.stepping.proofs.affirm.Reads as affirm-reads
-use Rattle.stepping.proofs.choose.Reads as choose-reads
-use Rattle.stepping.proofs.depart.Reads as depart-reads
-use Rattle.stepping.proofs.next_operand.Reads as next-operand-reads
-use Rattle.stepping.proofs.operate.Reads as operate-reads
-use Rattle.topframe.proofs.top_frame.Reads as top-frame-reads
-use Rattle.transitions.proofs.assign.Reads as assign-reads
-use Rattle.calling.proofs.enter.Reads as enter-reads
-use Rattle.gathering.proofs.reach.Reads as reach-reads
-use Rattle.transitions.proofs.take_off.Reads as take-off-reads
 
 -- src/lib.rt:273:18
 sub-frames : tie.Need-sub-frames

@@ -1,4 +1,3 @@
-use mathlib.Core.Path.{_≡_}
 use native.Mathlib.Omega.{arith}
 use Prim.Native.Nat.{_-_}
 use Rattle.semantics.specs.Machine.{wait}
@@ -8,8 +7,6 @@ use Rattle.stepping.proofs.Executions.{waits-word}
 use borrow.Author.Needs.{needs}
 use Rattle.stepping.proofs.statements.resume.Statement.{statement}
 use Rattle.stepping.proofs.statements.resume.Tie as tie
-use Rattle.frame_words.proofs.frame_word.Reads as frame-word-reads
-use Rattle.transitions.proofs.take_off.Reads as take-off-reads
 
 sub-frames : tie.Need-sub-frames
 sub-frames c = search needs
