@@ -1,4 +1,4 @@
-// Questions 13 and 14: every variable read has a value, and every body returns.
+// Question 13: every variable read has a value by then.
 use node_records::b_at;
 use node_records::kind_at;
 use node_records::prior;

@@ -1,4 +1,4 @@
-// Questions 4, 7, 8 and 9: function records, node records, sizes and sorts.
+// Questions 4, 7 and 8: function records, node records and sizes.
 use node_records::a_at;
 use node_records::arity_at;
 use node_records::b_at;
