@@ -94,3 +94,66 @@ fn short(line: &str) -> String {
     let text = line.split(": error: ").nth(1).unwrap_or(line);
     text.chars().take(120).collect()
 }
+
+#[cfg(test)]
+mod tests {
+    use super::*;
+    use std::path::PathBuf;
+
+    /// A crate's folder with one file of proofs, whose third line is the clause of `keep` for a rule.
+    fn folder(name: &str) -> PathBuf {
+        let path = std::env::temp_dir().join(format!("refusals-{name}-{}", std::process::id()));
+        fs::create_dir_all(path.join("proofs")).expect("the folder is made");
+        fs::write(path.join("proofs/Keep.antt"), "-- laws\nkeep : Fact\nkeep and-false = tt\n")
+            .expect("the file is written");
+        path
+    }
+
+    /// What is objected to a definition that is to break `keep` on the line of a rule, where the prover said this.
+    fn objected(name: &str, words: &str, log: &str) -> bool {
+        let path = folder(name);
+        let law = Law { file: "proofs/Keep.antt".into(), name: "keep".into(), words: words.into() };
+        let objection = law_objection(log, &[law], &path);
+        fs::remove_dir_all(path).expect("the folder is removed");
+        objection.is_some()
+    }
+
+    #[test]
+    fn a_law_that_breaks_by_itself_counts() {
+        assert!(!objected("own", "and-false", "/t/proofs/Keep.antt:3:5: error: `keep`: 1 ≟ 2"));
+    }
+
+    #[test]
+    fn a_law_that_rests_on_another_does_not_count() {
+        let log = "/t/proofs/Keep.antt:3:5: error: `keep`: `sound` was not admitted, so";
+        assert!(objected("follows", "and-false", log));
+    }
+
+    #[test]
+    fn another_line_or_law_does_not_count() {
+        let log = "/t/proofs/Keep.antt:3:5: error: `keep`: 1 ≟ 2";
+        assert!(objected("line", "and-true", log));
+        assert!(objected("law", "and-false", &log.replace("`keep`", "`kept`")));
+        assert!(objected("file", "and-false", &log.replace("Keep", "Kept")));
+    }
+
+    #[test]
+    fn a_misfit_does_not_count() {
+        let log = "/t/proofs/Keep.antt:3:5: error: `keep`: record `R` has no field `x`";
+        assert!(objected("misfit", "and-false", log));
+    }
+
+    #[test]
+    fn a_definition_that_names_no_law_does_not_count() {
+        assert!(law_objection("", &[], Path::new(".")).is_some());
+    }
+
+    #[test]
+    fn a_function_counts_where_a_fact_of_its_own_fails() {
+        let own = "fn c::f: not proved\n/t/proofs/f/Proof.antt:3:5: error: `returns`: 1 ≟ 2";
+        assert!(objection(own, "f").is_none());
+        assert!(objection("fn c::f: proved", "f").is_some());
+        assert!(objection("fn c::g: not proved", "f").is_some());
+        assert!(objection("fn c::f: not proved; it calls `c::g`", "f").is_some());
+    }
+}
