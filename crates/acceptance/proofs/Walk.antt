@@ -12,12 +12,13 @@ use Rattle.records.specs.Parts.{startOf, partOf, Laid}
 use Rattle.records.specs.Search.{shift}
 use Rattle.records.specs.declared.Found.{Found}
 use Rattle.records.specs.declared.Found.the-variants.{At, Nothing}
-use Rattle.records.proofs.Parts.{part-taken, part-fits, part-length}
+use Rattle.records.proofs.Parts.{part-taken}
 use Rattle.language.specs.Nodes.{answers}
 use Rattle.language.specs.Check.{originOf, inPart}
 use Rattle.language.specs.Known.{Known, Calls}
 use Rattle.acceptance.specs.Stages.{Ready}
 use Rattle.acceptance.proofs.Places.{Placed}
+use Rattle.acceptance.proofs.Passing.{part-room, part-asks}
 
 -- the part starts after all function records
 start-past : (s : List ℕ) (f : ℕ) → functions s < startOf s f
@@ -25,24 +26,17 @@ unfolding startOf
 start-past s f = omega arith
 
 module _ (s : List ℕ) (q : ℕ) (laid : Laid s) {F f start n : ℕ} (e : F ≡ functions s) (l : f < F) (a : start ≡ startOf s f) (b : n ≡ countOf s f) where
-  known-function : f < functions s
-  known-function = rw e at l
-
   abbrev taken : List ℕ
   taken = take (12 * (start + n) - 12 * start) (drop (12 * start) s)
-
-  pub fits : 12 * (start + n) ≤ length s
-  fits = part-fits s f a b laid known-function
 
   -- what the questions in a part ask
   pub asks : 7 ≤ q → Ready s q
       → (Laid s × (f < functions s))
       × (((12 * n ≤ length taken) × (1 ≤ n) × (n ≤ 4096) × (7 ≤ q)) × (9 < q → Known taken n × Calls (functions s) taken n))
   asks m r =
-      let k = known-function in
+      let p = part-asks s laid e l a b in
       let t : taken ≡ partOf s f = part-taken s f a b in
-      let z = part-length s f (laid .fits f k) in
-      ((laid, k), ((rw t (omega arith), omega (arith, laid .some f k), omega (arith, laid .small f k), m), λ h. rw (t, b) (r h f k)))
+      (p .0, ((p .1 .0, p .1 .1, p .1 .2, m), λ h. rw (t, b) (r h f (p .0 .1))))
 
   -- what they find, as the definition counts its place
   pub found : (r : Found) (o : ℕ) → r ≡ getD (answers s f taken n) (q - 7) Nothing → o ≡ pick (eqb q 10 || eqb q 14) (1 + f) start → inPart q s f ≡ shift o r
@@ -62,7 +56,7 @@ module _ (s : List ℕ) (q : ℕ) (laid : Laid s) {F f start n : ℕ} (e : F ≡
   pub placed : (r : Found) (o : ℕ) → length s ≤ 50700 → Placed n r → o ≡ pick (eqb q 10 || eqb q 14) (1 + f) start → (i x : ℕ) → r ≡ At i x → (o + i < 4225) × (x < 64)
   placed r o m p h i x g =
       let z = p i x g in
-      (omega (arith, fits, origin-low o h, z .0), z .1)
+      (omega (arith, part-room s laid e l a b, origin-low o h, z .0), z .1)
 
 shift-at : (o i x : ℕ) (r : Found) → shift o r ≡ At i x → (j : ℕ) × (r ≡ At j x) × (o + j ≡ i)
 unfolding shift

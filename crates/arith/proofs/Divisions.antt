@@ -1,6 +1,6 @@
 -- Where the divisions do not raise arith they are defined and in the range; the shift to the right is.
 use mathlib.Core.Path.{_≡_, refl, sym, ap, _∙_}
-use mathlib.Core.Bool.{Bool, true, false, _||_, true≢false}
+use mathlib.Core.Bool.{true, false, true≢false, or-true}
 use Prim.Native.Nat.{ℕ, zero, suc, _-_, _/_, _^_, _<_, _≤_}
 use native.Mathlib.Nat.{lt-of-le-of-lt, lt-of-lt-of-le, div-le-self, div-lt-self}
 use native.Mathlib.Decide.{decLt}
@@ -33,10 +33,6 @@ divides a b e = record {
     positive : (n : ℕ) → (n ≡ 0 → ⊥) → 0 < n
     positive zero h = absurd (h refl)
     positive (suc n) h = omega arith
-
-    or-true : (t : Bool) → t || true ≡ true
-    or-true true = refl
-    or-true false = refl
 
 fit-neg : (q : ℕ) → q ≤ 2 ^ 31 → SFits w32 (negℤ (pos q))
 fit-neg zero h = record { sfits = omega arith }

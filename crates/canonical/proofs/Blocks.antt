@@ -17,12 +17,12 @@ use Rattle.semantics.specs.Machine.{Frame, gather, and, wait, branch, check}
 use Rattle.image.specs.Layout.{filled, valuesWords, nodesWords, block, frameWords, Activation, activation, activationWords}
 use Rattle.image.specs.Decode.{valuesOf, nodesOf, operands, frames, frameOf, activationOf}
 use Rattle.image.specs.Narrow.{NarrowFrame, NarrowActivation}
-use Rattle.image.proofs.Parts.{length-values, length-nodes, ref-word}
+use Rattle.image.proofs.Parts.{length-values, length-nodes, length-valuesOf, length-nodesOf, ref-word}
 use Rattle.image.proofs.Frames.{headKind, headWord}
 use Rattle.image.proofs.Operands.{gather-words}
 use Rattle.image.proofs.Variables.{activation-words}
 use Rattle.canonical.specs.Blocks.{valuesOk, nodesOk, operandsOk, frameOk, activationOk}
-use Rattle.canonical.proofs.Slots.{values-sound, nodes-sound, length-valuesOf, length-nodesOf, values-pass, nodes-pass}
+use Rattle.canonical.proofs.Slots.{values-sound, nodes-sound, values-pass, nodes-pass}
 
 -- words that are all zero, by their number
 pub zeros : (l : List ℕ) (n : ℕ) → length l ≡ n → allZero l ≡ true → l ≡ replicate n 0

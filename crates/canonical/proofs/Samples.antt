@@ -3,7 +3,7 @@ use mathlib.Core.Path.{_≡_, refl}
 use mathlib.Core.Bool.{true, false}
 use mathlib.Core.List.{List, [], _∷_, _++_, map}
 use Prim.Native.Nat.{ℕ}
-use lib.ListN.{set, take, replicate}
+use lib.ListN.{take, replicate}
 use Rattle.semantics.specs.Values.{nothing, int, truth}
 use Rattle.semantics.specs.Program.{op, fn, node, ifOf}
 use Rattle.semantics.specs.Machine.{arith, abort, Frame, gather, and, wait, branch, check, val, saved, calm, State, exception, main, returned, running}
@@ -11,6 +11,7 @@ use Rattle.image.specs.Layout.{filled, bit, valueWords, valuesWords, nodesWords
 use Rattle.image.specs.Decode.{activationOf, framesHeld}
 use Rattle.image.specs.Image.{savedActivations, savedFrames, headWords, activationsOf, framesOf, image}
 use Rattle.image.proofs.Samples.{looping, first, inside}
+use Rattle.image.proofs.Verdicts.{change, changed}
 use Rattle.canonical.specs.Blocks.{valueOk, controlOk, operandsOk, frameOk, activationOk}
 use Rattle.canonical.specs.Words.{tagOk, headOk, activationsOk, framesOk, imageOk}
 
@@ -66,13 +67,6 @@ images-fail : map (λ s. imageOk (image s))
     ≡ replicate 4 false
 unfolding filled bit valueWords valuesWords nodesWords refWord block gathering frameWords controlWords activationWords savedActivations savedFrames headWords activationsOf framesOf image valueOk controlOk operandsOk frameOk activationOk tagOk headOk activationsOk framesOk imageOk activationOf framesHeld
 images-fail = refl
-
--- a state, a place, and the word that it is changed to
-pub data Change : Type 0 where
-  change : State → ℕ → ℕ → Change
-
-abbrev changed : Change → List ℕ
-changed (change s at word) = set (image s) at word
 
 -- no tag, a tag that no state has, an int where there is none, a control where there is none, a word after the control, the last word, the
 -- word after the last frame's room; no activation, 33; no form, a bool of 2, a word of nothing; a frame too few, too many, and

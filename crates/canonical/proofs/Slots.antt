@@ -1,11 +1,11 @@
 -- Values and nodes in slots of two words: those that pass are written again as they were read, and those of an image pass.
-use mathlib.Core.Path.{_≡_, refl, ap}
+use mathlib.Core.Path.{_≡_, refl}
 use mathlib.Core.Bool.{true, false, false≢true}
 use mathlib.Core.List.{List, [], _∷_, _++_}
 use Prim.Native.Nat.{ℕ, zero, suc, _*_, _≤_}
 use native.Mathlib.Omega.{arith}
 use lib.Dec.{eqb}
-use lib.ListN.{length, getD, take, drop}
+use lib.ListN.{length, getD, take}
 use borrow.Author.Tests.{eqb-true, ltb-true}
 use Rattle.words.proofs.Tests.{both}
 use Rattle.semantics.specs.Values.{Value, nothing, int, truth}
@@ -57,16 +57,6 @@ nodes-sound (suc n) (t ∷ w ∷ l) h e =
     let b = both (eqb w 0) (nodesOk n l) e in
     let k : 2 * suc n ≡ suc (suc (2 * n)) = omega arith in
     rw (k, eqb-true w 0 (b .0), nodes-sound n l (omega arith) (b .1))
-
-pub length-valuesOf : (n : ℕ) (l : List ℕ) → length (valuesOf n l) ≡ n
-unfolding valuesOf
-length-valuesOf zero l = refl
-length-valuesOf (suc n) l = ap suc (length-valuesOf n (drop 2 l))
-
-pub length-nodesOf : (n : ℕ) (l : List ℕ) → length (nodesOf n l) ≡ n
-unfolding nodesOf
-length-nodesOf zero l = refl
-length-nodesOf (suc n) l = ap suc (length-nodesOf n (drop 2 l))
 
 -- ---- what an image has
 

@@ -6,16 +6,15 @@ use Prim.Native.Nat.{ℕ, zero, suc, _+_, _-_, _≤_, _<_}
 use native.Mathlib.Omega.{arith}
 use native.Mathlib.Decide.{decLt}
 use borrow.Author.Tests.{eq-eqb}
-use Rattle.varset.specs.Sets.{Set, has, with}
+use Rattle.varset.specs.Sets.{Set, has, with, Sub}
 use Rattle.records.specs.Fields.{kindAt, bAt, sizeAt}
 use Rattle.records.specs.Children.{arityAt, walk, children}
-use Rattle.records.proofs.Bools.{or-more}
+use Rattle.records.proofs.Bools.{or-more, or-last}
 use Rattle.language.specs.Statements.{readsOf}
 use Rattle.language.specs.Nodes.{total}
 use Rattle.language.proofs.Subtrees.{reads-nodes}
 use Rattle.language.proofs.Tiles.{Each}
-use Rattle.effects.specs.Effects.{Sub, Covers}
-use Rattle.effects.proofs.Parts.{or-last}
+use Rattle.effects.specs.Effects.{Covers}
 
 pub inserted : (r s : ℕ) (x y : ℕ) → has r ≡ with (has s) x → x ≡ y → Sub (has s) (has r) × (has r y ≡ true)
 unfolding with

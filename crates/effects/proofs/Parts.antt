@@ -1,21 +1,18 @@
 -- What the effect of a statement says, from the effects of its parts.
 use mathlib.Core.Path.{_≡_, refl, sym, _∙_}
-use mathlib.Core.Bool.{Bool, true, false, not, _&&_, _||_, or-true}
+use mathlib.Core.Bool.{true, false, not, _&&_}
 use mathlib.Core.List.{List}
 use mathlib.Core.Logic.{_⊎_, ⊎-elim}
 use Prim.Native.Nat.{ℕ}
 use lib.Dec.{eqb}
 use borrow.Author.Tests.{eqb-true}
-use Rattle.varset.specs.Sets.{Set, has, none, with, without, both, either, less}
+use Rattle.varset.specs.Sets.{Set, has, none, with, without, both, either, less, Sub}
 use Rattle.varset.proofs.Laws.{none-is}
-use Rattle.records.proofs.Bools.{both-mono, and-left, and-right, and-both, or-more, by, or-cases, clash}
+use Rattle.records.proofs.Bools.{both-mono, and-left, and-right, and-both, or-more, by, or-cases, clash, or-last}
 use Rattle.language.specs.Statements.{Read, Statement, Nop, Seq, Assign, Decl, If, While, Return, Assert, Expr}
 use Rattle.language.specs.Flow.{declares, leaves, returns}
 use Rattle.language.proofs.Flows.{keeps, ok-nop, ok-seq, ok-assign, ok-decl, ok-if, ok-while, ok-return, ok-assert, ok-expr}
-use Rattle.effects.specs.Effects.{Sub, Covers, Means}
-
-pub or-last : (a b : Bool) → b ≡ true → (a || b) ≡ true
-or-last a b e = rw e (or-true a)
+use Rattle.effects.specs.Effects.{Covers, Means}
 
 pub empty-member : {C : Type 0} (x : ℕ) → none x ≡ true → C
 unfolding none

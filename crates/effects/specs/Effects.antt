@@ -3,14 +3,10 @@ use mathlib.Core.Path.{_≡_}
 use mathlib.Core.Bool.{true}
 use mathlib.Core.List.{List}
 use Prim.Native.Nat.{ℕ}
-use Rattle.varset.specs.Sets.{Set, has}
+use Rattle.varset.specs.Sets.{Set, has, Sub}
 use Rattle.records.specs.declared.Found.the-variants.{Nothing}
 use Rattle.language.specs.Statements.{Read, Statement}
 use Rattle.language.specs.Flow.{declares, leaves, missing, lacks, returns}
-
--- each member of d is one of e
-abbrev pub Sub : Set → Set → Type 0
-Sub d e = (x : ℕ) → d x ≡ true → e x ≡ true
 
 -- every variable read is one of these
 abbrev pub Covers : List Read → Set → Type 0

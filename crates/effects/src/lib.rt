@@ -8,10 +8,10 @@ ghost use mathlib.Core.List.{List};
 ghost use mathlib.Core.Logic.{_⊎_};
 ghost use Prim.Native.Nat.{ℕ, _+_, _*_, _≤_, _<_};
 ghost use lib.ListN.{length};
-ghost use Rattle.varset.specs.Sets.{Set, has, none};
+ghost use Rattle.varset.specs.Sets.{Set, has, none, Sub};
 ghost use Rattle.records.specs.Fields.{kindAt, bAt};
 ghost use Rattle.language.specs.Statements.{Statement, Seq, Decl, If, While, Read};
-ghost use Rattle.effects.specs.Effects.{Sub, Covers, Means};
+ghost use Rattle.effects.specs.Effects.{Covers, Means};
 
 // A statement's code, 4 where it returns, 3 where it may not, 255 where it fails; the variables that it may read before it
 // sets them, and those that it sets on every way through.

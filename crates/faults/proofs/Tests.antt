@@ -1,25 +1,16 @@
 -- Tests in the code's form and in the definitions' form.
-use mathlib.Core.Path.{_≡_, refl, sym}
-use mathlib.Core.Bool.{Bool, true, false, not, _&&_}
+use mathlib.Core.Path.{_≡_, sym}
+use mathlib.Core.Bool.{Bool, true, false, _&&_}
 use mathlib.Core.List.{List}
-use Prim.Native.Nat.{ℕ, zero, suc, _+_, _*_, _^_, _%_, _≤_, _<_}
-use native.Mathlib.Nat.{one-mul}
+use Prim.Native.Nat.{ℕ, zero, suc, _+_, _^_, _<_}
 use native.Mathlib.Numerals.{add-one}
 use native.Mathlib.Omega.{arith}
-use lib.Dec.{eqb, ltb, lit<}
-use lib.Pow.{shl-exact, pow-mono}
+use lib.Dec.{eqb, ltb}
+use lib.Pow.{pow-mono}
 use borrow.Author.Tests.{lt-ltb}
 use Rattle.varset.specs.Lowest.{pick}
 use Rattle.records.specs.Fields.{kindAt, bAt}
 use Rattle.language.specs.Scopes.{declaresAt, declCount}
-
-pub not-false : (b : Bool) → not b ≡ false → b ≡ true
-not-false true e = refl
-not-false false e = sym e
-
--- the shift does not wrap
-pub mask-exact : (mask p : ℕ) → p ≤ 8 → ltb mask (1 * 2 ^ p % 4294967296) ≡ ltb mask (2 ^ p)
-mask-exact mask p h = rw (shl-exact 1 p 32 (lit< tt) (omega arith), one-mul)
 
 -- a mask of eight bits fits where there are eight parameters or more
 pub mask-any : (mask p : ℕ) → mask < 256 → 8 < p → true ≡ ltb mask (2 ^ p)

@@ -26,7 +26,7 @@ use Rattle.semantics.proofs.Operands.{types-length}
 use Rattle.semantics.proofs.Nodes.{variables, variable-type-is}
 use Rattle.image.specs.Decode.{valueOf, valuesOf}
 use Rattle.store.specs.Meaning.{activationAt}
-use Rattle.operands.proofs.Counts.{length-values}
+use Rattle.image.proofs.Parts.{length-valuesOf}
 use Rattle.fitness.specs.Meaning.{variablesIn}
 
 -- ---- one value by the first of its words
@@ -139,7 +139,7 @@ module _ (s : List ℕ) (e : checkOf s ≡ accepted) (f : ℕ) (l : f < function
   holds-count m a v n =
       rw (variables s (accept.accepted-is s e) f l)
       (holds-length (variablesIn m a v) (typesFrom typeIn (varsOf s f) 0)
-      (λ q. n (omega (arith, q, length-values v (drop 8 (blockAt 136 m 128 a)), types-length typeIn (varsOf s f) 0))))
+      (λ q. n (omega (arith, q, length-valuesOf v (drop 8 (blockAt 136 m 128 a)), types-length typeIn (varsOf s f) 0))))
 
   pub type-in : (x : ℕ) → x < varsOf s f → varType (programOf s .fun f) x ≡ typeIn x
   unfolding programOf

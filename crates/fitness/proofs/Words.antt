@@ -3,10 +3,8 @@ use mathlib.Core.Path.{_≡_, refl, _∙_}
 use mathlib.Core.Bool.{Bool, true, false}
 use mathlib.Core.List.{List, [], _∷_}
 use Prim.Native.Nat.{ℕ, zero, suc, _+_, _*_, _^_, _<_}
-use native.Mathlib.Omega.{arith}
 use lib.Dec.{eqb}
 use lib.ListN.{getD, take, drop}
-use lib.Seq.{getD-drop}
 use borrow.Author.Tests.{lt-ltb}
 use Rattle.varset.specs.Lowest.{pick}
 use Rattle.words.specs.Stacks.{blockAt, entries, Every}
@@ -16,21 +14,13 @@ use Rattle.semantics.specs.Values.{nothing, int, truth}
 use Rattle.semantics.specs.Program.{Head, op, fn}
 use Rattle.semantics.specs.Machine.{Frame, Control, val, eval, exec, calm, State, main}
 use Rattle.semantics.specs.Test.{word, words, frameWords, controlWord, savedWords, inWords}
+use Rattle.semantics.proofs.Words.{take-below, drop-below}
 use Rattle.image.specs.Layout.{Activation, activation}
 use Rattle.image.specs.Decode.{valueOf, valuesOf, refOf, operands, frames, frameOf, controlOf, activationOf, framesHeld, callersOf, runningOf, activationsIn, framesIn, states, stateOf}
 
 -- every word is below 2^32
 abbrev pub Small : List ℕ → Type 0
 Small l = (i : ℕ) → getD l i 0 < 2 ^ 32
-
-small-drop : (n : ℕ) (l : List ℕ) → Small l → Small (drop n l)
-small-drop n l h i = rw (getD-drop n l i 0) (h (n + i))
-
-small-take : (n : ℕ) (l : List ℕ) → Small l → Small (take n l)
-small-take zero l h i = omega arith
-small-take (suc n) [] h i = omega arith
-small-take (suc n) (x ∷ l) h zero = h 0
-small-take (suc n) (x ∷ l) h (suc i) = small-take n l (λ j. h (suc j)) i
 
 -- what holds of every entry and of the default holds at any place
 getD-so : {E : Type 0} (Q : E → Type 0) (l : List E) (k : ℕ) (d : E) → Every Q l → Q d → Q (getD l k d)
@@ -46,7 +36,7 @@ every-take Q (suc k) (x ∷ l) h = (h .0, every-take Q k l (h .1))
 every-entries : {E : Type 0} (Q : E → Type 0) (w : ℕ) (dec : List ℕ → E) → ((b : List ℕ) → Small b → Q (dec b))
     → (l : List ℕ) → Small l → (a n : ℕ) → Every Q (entries w dec l a n)
 every-entries Q w dec q l h a zero = tt
-every-entries Q w dec q l h a (suc n) = (q (blockAt w l a n) (small-take w (drop (a + n * w) l) (small-drop (a + n * w) l h)), every-entries Q w dec q l h a n)
+every-entries Q w dec q l h a (suc n) = (q (blockAt w l a n) (take-below (2 ^ 32) w (drop (a + n * w) l) (drop-below (2 ^ 32) (a + n * w) l h)), every-entries Q w dec q l h a n)
 
 -- ---- values, frames, activations, controls
 
@@ -62,7 +52,7 @@ value-word t w h = go (eqb t 0) (eqb t 1)
 values-words : (n : ℕ) (l : List ℕ) → Small l → words (valuesOf n l) ≡ true
 unfolding valuesOf
 values-words zero l h = refl
-values-words (suc n) l h = rw (value-word (getD l 0 0) (getD l 1 0) (h 1), values-words n (drop 2 l) (small-drop 2 l h))
+values-words (suc n) l h = rw (value-word (getD l 0 0) (getD l 1 0) (h 1), values-words n (drop 2 l) (drop-below (2 ^ 32) 2 l h))
 
 -- a frame adds no int that is no word
 abbrev Plain : Frame → Type 0
@@ -75,7 +65,7 @@ operands-plain h n m l s K = rw (values-words n l s)
 frame-plain : (b : List ℕ) → Small b → Plain (frameOf b)
 unfolding frameOf frames
 frame-plain b s =
-    let o = small-drop 4 b s in
+    let o = drop-below (2 ^ 32) 4 b s in
     getD-so Plain (frames (getD b 1 0) (getD b 2 0) (getD b 3 0) (drop 4 b)) (getD b 0 0) Frame.discard (
       λ K. refl,
       (
@@ -97,7 +87,7 @@ Wordy (activation f k η) = words η ≡ true
 
 activation-wordy : (b : List ℕ) → Small b → Wordy (activationOf b)
 unfolding activationOf
-activation-wordy b s = values-words (getD b 2 0) (drop 8 b) (small-drop 8 b s)
+activation-wordy b s = values-words (getD b 2 0) (drop 8 b) (drop-below (2 ^ 32) 8 b s)
 
 control-word : (form w : ℕ) → w < 2 ^ 32 → controlWord (controlOf form w) ≡ true
 unfolding controlOf

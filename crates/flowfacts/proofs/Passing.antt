@@ -4,14 +4,15 @@ use mathlib.Core.Bool.{Bool, true, false, not, _&&_, and-false}
 use mathlib.Core.List.{List}
 use mathlib.Core.Logic.{_↔_}
 use Prim.Native.Nat.{ℕ}
-use Rattle.varset.specs.Sets.{Set, has, none, either, less}
+use borrow.Author.Tests.{not-true}
+use Rattle.varset.specs.Sets.{Set, has, none, either, less, Sub}
 use Rattle.records.specs.declared.Found.{Found}
 use Rattle.records.specs.declared.Found.the-variants.{At, Nothing}
-use Rattle.records.proofs.Bools.{and-left, and-right, and-both, not-true, by, clash}
+use Rattle.records.proofs.Bools.{and-left, and-right, and-both, by, clash}
 use Rattle.language.specs.Statements.{Read, Statement}
 use Rattle.language.specs.Flow.{leaves, missing, lacks}
 use Rattle.semantics.specs.Test.{clear}
-use Rattle.summaries.specs.Summary.{Sub, Needs, Summary}
+use Rattle.summaries.specs.Summary.{Needs, Summary}
 use Rattle.flowfacts.specs.declared.Passage.{Passage}
 use Rattle.flowfacts.specs.Goes.{Goes}
 

@@ -5,7 +5,7 @@ use mathlib.Core.List.{List, [], _∷_, _++_}
 use Prim.Native.Nat.{ℕ, zero, suc, _+_, _*_, _-_, _/_, _%_, _≤_, _<_}
 use native.Mathlib.Nat.{zero-add, mod-eq-of-lt, div-eq-of-lt, add-mul-mod-self-left, add-mul-div-left}
 use native.Mathlib.Omega.{arith}
-use lib.ListN.{length, getD, take}
+use lib.ListN.{length, getD, take, drop}
 use lib.Seq.{take-append-add}
 use Rattle.semantics.specs.Values.{Value, nothing, int, truth}
 use Rattle.semantics.specs.Program.{Ref, node, ifOf, seqOf}
@@ -65,6 +65,17 @@ values-back (nothing ∷ vs) R = rw (values-back vs R)
 values-back (int n ∷ vs) R = rw (values-back vs R)
 values-back (truth true ∷ vs) R = rw (values-back vs R)
 values-back (truth false ∷ vs) R = rw (values-back vs R)
+
+-- so many values and nodes are read
+pub length-valuesOf : (n : ℕ) (l : List ℕ) → length (valuesOf n l) ≡ n
+unfolding valuesOf
+length-valuesOf zero l = refl
+length-valuesOf (suc n) l = ap suc (length-valuesOf n (drop 2 l))
+
+pub length-nodesOf : (n : ℕ) (l : List ℕ) → length (nodesOf n l) ≡ n
+unfolding nodesOf
+length-nodesOf zero l = refl
+length-nodesOf (suc n) l = ap suc (length-nodesOf n (drop 2 l))
 
 pub nodes-back : (ns R : List ℕ) → nodesOf (length ns) (nodesWords ns ++ R) ≡ ns
 unfolding nodesOf nodesWords

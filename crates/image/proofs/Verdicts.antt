@@ -42,7 +42,7 @@ short-fails = refl
 pub data Change : Type 0 where
   change : State → ℕ → ℕ → Change
 
-abbrev changed : Change → List ℕ
+abbrev pub changed : Change → List ℕ
 changed (change s at word) = set (image s) at word
 
 abbrev changes : List Change

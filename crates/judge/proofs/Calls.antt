@@ -9,19 +9,19 @@ use native.Mathlib.Nat.{not-suc-le-zero, mod-lt}
 use lib.Dec.{ltb, lit<}
 use lib.ListN.{length, getD}
 use borrow.Author.Tests.{ltb-true}
-use Rattle.varset.specs.Sets.{Set, has, none, either}
+use Rattle.varset.specs.Sets.{Set, has, none, either, Sub}
 use Rattle.records.proofs.Children.{length-walk}
 use Rattle.records.specs.Fields.{resultOf, maskOf, kindAt, aAt, bAt, sizeAt}
 use Rattle.records.specs.Children.{arities, arityOf, arityAt, walk, children}
-use Rattle.records.proofs.Bools.{and-left, and-right, or-more}
+use Rattle.records.proofs.Bools.{and-left, and-right, or-more, or-last}
 use Rattle.language.specs.Sorts.{isExpression, wantsExpression}
 use Rattle.language.specs.Scopes.{usesVariable}
 use Rattle.language.specs.Statements.{readsOf}
 use Rattle.language.specs.Types.{paramType, typesOf, typeAt, wantsOf, wantAt}
 use Rattle.language.specs.Nodes.{total, outside}
 use Rattle.language.proofs.Trees.{statement-rest}
-use Rattle.effects.specs.Effects.{Sub, Covers}
-use Rattle.effects.proofs.Parts.{or-last, nop-means}
+use Rattle.effects.specs.Effects.{Covers}
+use Rattle.effects.proofs.Parts.{nop-means}
 use Rattle.effects.proofs.Covering.{AllCovered, covers-more, node-covered}
 use Rattle.judge.specs.Judged.{Kid, Kids, Judged, Filled}
 use Rattle.judge.proofs.Kids.{positive, kid-typed, suits-same}

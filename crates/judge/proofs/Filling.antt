@@ -1,6 +1,6 @@
 -- The working arrays filled node by node, and what a full pass shows.
 use mathlib.Core.Path.{_≡_, refl, sym, _∙_}
-use mathlib.Core.Bool.{Bool, true, false, _&&_}
+use mathlib.Core.Bool.{Bool, true, false, _&&_, and-false}
 use mathlib.Core.List.{List, [], _∷_}
 use Prim.Native.Nat.{ℕ, zero, suc, _+_, _-_, _≤_, _<_}
 use native.Mathlib.Omega.{arith}
@@ -9,14 +9,14 @@ use lib.Dec.{eqb}
 use lib.ListN.{getD, set, length, length-set}
 use lib.Seq.{getD-set-same, getD-set-other}
 use borrow.Author.Tests.{eqb-true, eq-eqb, le-leb}
-use Rattle.varset.specs.Sets.{Set, has, none, less}
+use Rattle.varset.specs.Sets.{Set, has, none, less, Sub}
 use Rattle.records.specs.Fields.{kindAt, sizeAt}
 use Rattle.records.specs.Children.{children}
 use Rattle.records.proofs.Bools.{and-left, and-right, and-both, by}
 use Rattle.language.specs.Statements.{statementAt}
 use Rattle.language.specs.Types.{typeAt, wantAt, agree}
 use Rattle.language.specs.Nodes.{sizeOk, wrongChild, some, misplaced, mistyped}
-use Rattle.effects.specs.Effects.{Sub, Means}
+use Rattle.effects.specs.Effects.{Means}
 use Rattle.effects.proofs.Parts.{empty-member}
 use Rattle.judge.specs.Judged.{Kids, Judged, Filled}
 use Rattle.judge.specs.Passed.{Passed}
@@ -59,15 +59,11 @@ unfolding some
 some-none p zero h = refl
 some-none p (suc n) h = rw (h n (omega arith), some-none p n (λ q l. h q (omega arith)))
 
-no-other : (a : Bool) → (a && false) ≡ false
-no-other true = refl
-no-other false = refl
-
 module _ (s : List ℕ) (f : ℕ) (t : List ℕ) (n : ℕ) where
   wrong-none : (q i : ℕ) (cs : List ℕ) → Kids s f t n q cs → wrongChild t (kindAt t q) cs i ≡ false
   unfolding wrongChild
   wrong-none q i [] k = refl
-  wrong-none q i (c ∷ cs) k = rw (k .0 .sort, no-other (eqb i c), wrong-none q i cs (k .1))
+  wrong-none q i (c ∷ cs) k = rw (k .0 .sort, and-false (eqb i c), wrong-none q i cs (k .1))
 
   agree-all : (i : ℕ) (cs : List ℕ) → Kids s f t n i cs → agree (wantAt s f t n i) (typeAt s f t n) cs ≡ true
   unfolding agree

@@ -7,11 +7,11 @@ use Prim.Native.Nat.{ℕ, _+_, _-_, _≤_, _<_}
 use native.Mathlib.Omega.{arith}
 use lib.Dec.{eqb, leb, ltb}
 use lib.ListN.{getD}
-use borrow.Author.Tests.{eqb-true, leb-true, ltb-true, lt-ltb, le-ltb}
+use borrow.Author.Tests.{eqb-true, leb-true, ltb-true, lt-ltb, le-ltb, not-true}
 use Rattle.varset.specs.Sets.{Set, has, none, with, either}
 use Rattle.records.specs.Fields.{kindAt, bAt, sizeAt}
 use Rattle.records.specs.Children.{arities, arityOf, arityAt}
-use Rattle.records.proofs.Bools.{and-left, and-right, not-true, or-more}
+use Rattle.records.proofs.Bools.{and-left, and-right, or-more, or-last}
 use Rattle.language.specs.Sorts.{isExpression, wantsExpression}
 use Rattle.language.specs.Statements.{Read, Statement, Seq, Decl, If, While, prior, last, readsOf, statementAt}
 use Rattle.language.specs.Scopes.{usesVariable}
@@ -19,7 +19,7 @@ use Rattle.language.specs.Types.{varType, typesOf, typeAt, condition, wantsOf, 
 use Rattle.language.specs.Nodes.{total, outside}
 use Rattle.language.proofs.Trees.{statement-seq, statement-assign, statement-decl, statement-if, statement-while, statement-return, statement-assert, statement-expr, statement-rest}
 use Rattle.effects.specs.Effects.{Covers, Means}
-use Rattle.effects.proofs.Parts.{or-last, assign-means, return-means, assert-means, expr-means, nop-means}
+use Rattle.effects.proofs.Parts.{assign-means, return-means, assert-means, expr-means, nop-means}
 use Rattle.effects.proofs.Covering.{covers-more}
 use Rattle.judge.specs.Judged.{Judged, Filled, Leaf, Operator, Single}
 use Rattle.judge.proofs.Kids.{positive, kid-typed, kid-statement, judged, no-children, one-child, two-children, three-children, suits-same}

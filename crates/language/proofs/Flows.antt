@@ -6,19 +6,15 @@ use mathlib.Core.Logic.{_↔_, Iff·rfl}
 use Prim.Native.Nat.{ℕ}
 use native.Mathlib.Omega.{arith}
 use lib.Dec.{eqb}
-use borrow.Author.Tests.{eqb-true}
+use borrow.Author.Tests.{eqb-true, not-true}
 use Rattle.varset.specs.Lowest.{pick}
-use Rattle.varset.specs.Sets.{Set, none, with, without, both, either, less}
+use Rattle.varset.specs.Sets.{Set, none, with, without, both, either, less, Sub}
 use Rattle.records.specs.Search.{orElse}
 use Rattle.records.specs.declared.Found.{Found}
 use Rattle.records.specs.declared.Found.the-variants.{At, Nothing}
-use Rattle.records.proofs.Bools.{both-mono, either-mono, and-left, and-right, and-both, not-true, or-false-left, or-false-right, or-more, by, or-cases, clash}
+use Rattle.records.proofs.Bools.{both-mono, either-mono, and-left, and-right, and-both, or-false-left, or-false-right, or-more, by, or-cases, clash}
 use Rattle.language.specs.Statements.{Read, read, Statement, Nop, Seq, Assign, Decl, If, While, Return, Assert, Expr}
 use Rattle.language.specs.Flow.{declares, leaves, missing, lacks}
-
--- each member of d is one of e
-abbrev pub Sub : Set → Set → Type 0
-Sub d e = (x : ℕ) → d x ≡ true → e x ≡ true
 
 -- every variable read has a value
 abbrev pub Reads : List Read → Set → Type 0

@@ -1,7 +1,7 @@
 -- Questions 10 and 11 mean that every statement of an accepted file reads, assigns and declares in its scope.
 use mathlib.Core.Path.{_≡_, refl, sym, subst}
 use mathlib.Core.Logic.{_⊎_, inl, inr, ⊎-elim}
-use mathlib.Core.Bool.{Bool, true, false, _||_, _&&_, or-true}
+use mathlib.Core.Bool.{Bool, true, false, _||_, _&&_}
 use mathlib.Core.List.{List}
 use Prim.Native.Nat.{ℕ, zero, suc, _+_, _-_, _≤_, _<_}
 use native.Mathlib.Omega.{arith}
@@ -13,7 +13,7 @@ use Rattle.varset.specs.Sets.{Set, none, with, either, below}
 use Rattle.records.specs.Fields.{functions, paramsOf, varsOf, countOf, kindAt, aAt, bAt, sizeAt}
 use Rattle.records.specs.Parts.{partOf}
 use Rattle.records.specs.Children.{arities, arityOf}
-use Rattle.records.proofs.Bools.{and-left, and-right, or-more, or-cases, by, clash}
+use Rattle.records.proofs.Bools.{and-left, and-right, or-more, or-cases, by, clash, or-last}
 use Rattle.language.specs.Sorts.{isExpression, wantsExpression}
 use Rattle.language.specs.Statements.{prior, last, readsOf, statementAt}
 use Rattle.language.specs.Flow.{declares}
@@ -116,9 +116,6 @@ same true b h k = sym (h refl)
 same false true h k = k refl
 same false false h k = refl
 
-or-also : (a b : Bool) → b ≡ true → (a || b) ≡ true
-or-also a b e = rw e (or-true a)
-
 module _ (s : List ℕ) (h : Accepted s) (f : ℕ) (l : f < functions s) where
   abbrev t : List ℕ
   t = partOf s f
@@ -186,7 +183,7 @@ module _ (s : List ℕ) (h : Accepted s) (f : ℕ) (l : f < functions s) where
         at : (x : ℕ) → scopeAt s f c x ≡ (scopeAt s f i x || eqb x (bAt t i))
         at x =
             same (scopeAt s f c x) (scopeAt s f i x || eqb x (bAt t i))
-            (λ q. ⊎-elim (λ k. or-more (scopeAt s f i x) (eqb x (bAt t i)) (is-scope s f i x k)) (λ (k : declaresAt t i x ≡ true). or-also (scopeAt s f i x) (eqb x (bAt t i)) (eq-eqb x (bAt t i) (sym (declares-is t i x k .1)))) (scope-up x (scope-is s f c x q)))
+            (λ q. ⊎-elim (λ k. or-more (scopeAt s f i x) (eqb x (bAt t i)) (is-scope s f i x k)) (λ (k : declaresAt t i x ≡ true). or-last (scopeAt s f i x) (eqb x (bAt t i)) (eq-eqb x (bAt t i) (sym (declares-is t i x k .1)))) (scope-up x (scope-is s f c x q)))
             (λ q. or-cases (scopeAt s f i x) (eqb x (bAt t i)) q (λ k. is-scope s f c x (scope-down x (scope-is s f i x k)))
             (λ k. is-scope s f c x (rw (eqb-true x (bAt t i) k) (decl-in e))))
 

@@ -7,7 +7,7 @@ use Prim.Native.Nat.{ℕ, _+_, _-_, _≤_, _<_}
 use native.Mathlib.Omega.{arith}
 use native.Mathlib.Decide.{decLt}
 use lib.Dec.{ltb}
-use borrow.Author.Tests.{ltb-true, ltb-false}
+use borrow.Author.Tests.{ltb-true, ltb-false, not-true}
 use Rattle.varset.specs.Lowest.{pick, lowest}
 use Rattle.varset.specs.Sets.{below}
 use Rattle.records.specs.Fields.{functions, paramsOf, varsOf, countOf}
@@ -15,7 +15,7 @@ use Rattle.records.specs.Parts.{startOf, partOf, Laid}
 use Rattle.records.specs.Search.{firstOf, shift, unless}
 use Rattle.records.specs.declared.Found.{Found}
 use Rattle.records.specs.declared.Found.the-variants.{At, Nothing}
-use Rattle.records.proofs.Bools.{not-true, by, clash}
+use Rattle.records.proofs.Bools.{by, clash}
 use Rattle.records.proofs.Loops.{Below, lowest-below, lowest-passes, found-below, none-found, first-lowest}
 use Rattle.language.specs.Statements.{statementAt}
 use Rattle.language.specs.Flow.{returns}

@@ -19,7 +19,7 @@ use Rattle.image.specs.Decode.{valueOf, valuesOf, runningOf, activationsTo, act
 use Rattle.image.specs.Narrow.{NarrowActivation}
 use Rattle.image.proofs.Images.{activations-in}
 use Rattle.store.specs.Meaning.{activationAt, variableAt}
-use Rattle.operands.proofs.Counts.{length-values}
+use Rattle.image.proofs.Parts.{length-valuesOf}
 use Rattle.fitness.specs.Held.{Held}
 use Rattle.fitness.specs.Meaning.{variablesIn}
 use Rattle.fitness.proofs.Lists.{activation-in}
@@ -96,7 +96,7 @@ module _ (m : List ℕ) (h : Held m) (tag : getD m 0 0 ≡ 2) where
   count-few =
       let n : Every NarrowActivation (activationsIn m) = rw (h .held, activations-in (h .state) (h .rest) (h .narrow)) (h .narrow .activations) in
       let k : length (variablesIn m a count) ≤ 64 = (rw opened at n) .0 in
-      omega (arith, k, length-values count (drop 8 (blockAt 136 m 128 a)))
+      omega (arith, k, length-valuesOf count (drop 8 (blockAt 136 m 128 a)))
 
   word : (x j : ℕ) → x < 64 → j < 2 → getD (drop 8 (blockAt 136 m 128 a)) (x * 2 + j) 0 ≡ getD m (variableAt a x + j) 0
   unfolding variableAt

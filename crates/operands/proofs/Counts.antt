@@ -1,8 +1,8 @@
 -- The operands of a frame by the counts that its words give.
-use mathlib.Core.Path.{_≡_, refl, ap, _∙_}
+use mathlib.Core.Path.{_≡_, _∙_}
 use mathlib.Core.Bool.{Bool, true, false, _&&_}
 use mathlib.Core.List.{List}
-use Prim.Native.Nat.{ℕ, zero, suc, _+_, _*_, _-_}
+use Prim.Native.Nat.{ℕ, suc, _+_, _*_, _-_}
 use native.Mathlib.Omega.{arith}
 use lib.Dec.{eqb}
 use lib.ListN.{length, drop}
@@ -12,18 +12,9 @@ use Rattle.varset.specs.Sets.{Set}
 use Rattle.semantics.specs.Values.{Ty}
 use Rattle.semantics.specs.Program.{Program}
 use Rattle.image.specs.Decode.{valuesOf, nodesOf}
+use Rattle.image.proofs.Parts.{length-valuesOf, length-nodesOf}
 use Rattle.operands.specs.Operands.{valuesSuit, nodesSuit, gathered}
 use Rattle.operands.proofs.Operands.{gathered-count, gathered-each}
-
-pub length-values : (n : ℕ) (l : List ℕ) → length (valuesOf n l) ≡ n
-unfolding valuesOf
-length-values zero l = refl
-length-values (suc n) l = ap suc (length-values n (drop 2 l))
-
-length-nodes : (n : ℕ) (l : List ℕ) → length (nodesOf n l) ≡ n
-unfolding nodesOf
-length-nodes zero l = refl
-length-nodes (suc n) l = ap suc (length-nodes n (drop 2 l))
 
 module _ (P : Program) (f : ℕ) (d : Set) (want : ℕ → Ty) (c : ℕ) (t : Ty) (l : List ℕ) (y z : ℕ) where
   abbrev whole : Bool
@@ -32,13 +23,13 @@ module _ (P : Program) (f : ℕ) (d : Set) (want : ℕ → Ty) (c : ℕ) (t : Ty
   pub gather-count : (y + z + 1 ≡ c → ⊥) → whole ≡ false
   gather-count n =
       gathered-count P f d want c t (valuesOf y l) (nodesOf z (drop (2 * y) l))
-      (λ e. n (omega (arith, e, length-values y l, length-nodes z (drop (2 * y) l))))
+      (λ e. n (omega (arith, e, length-valuesOf y l, length-nodesOf z (drop (2 * y) l))))
 
   module _ (e : y + z + 1 ≡ c) where
     each : whole ≡ (valuesSuit want 0 (valuesOf y l) && (eqb (want y) t && nodesSuit P f d want (suc y) (nodesOf z (drop (2 * y) l))))
     each =
-        let q : length (valuesOf y l) + suc (length (nodesOf z (drop (2 * y) l))) ≡ c = omega (arith, length-values y l, length-nodes z (drop (2 * y) l)) in
-        rw (length-values y l) at (gathered-each P f d want c t (valuesOf y l) (nodesOf z (drop (2 * y) l)) q)
+        let q : length (valuesOf y l) + suc (length (nodesOf z (drop (2 * y) l))) ≡ c = omega (arith, length-valuesOf y l, length-nodesOf z (drop (2 * y) l)) in
+        rw (length-valuesOf y l) at (gathered-each P f d want c t (valuesOf y l) (nodesOf z (drop (2 * y) l)) q)
 
     pub gather-values : valuesSuit want 0 (valuesOf y l) ≡ false → whole ≡ false
     gather-values q = each ∙ rw q

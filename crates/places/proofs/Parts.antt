@@ -1,6 +1,6 @@
 -- Where a part lies that fits, and that it has no node where it does not.
-use mathlib.Core.Path.{_≡_, refl}
-use mathlib.Core.Bool.{Bool, true, false, _&&_}
+use mathlib.Core.Path.{_≡_}
+use mathlib.Core.Bool.{false, and-false}
 use mathlib.Core.List.{List}
 use Prim.Native.Nat.{ℕ, _+_, _*_, _/_, _≤_, _<_}
 use native.Mathlib.Omega.{arith}
@@ -26,11 +26,7 @@ module _ (s : List ℕ) (f : ℕ) where
 
   pub no-room : (n : ℕ) → n ≡ length s / 12 → n < startOf s f + countOf s f → Lies s f 0 0
   unfolding partFits
-  no-room n e h = absent (rw (lt-leb (startOf s f + countOf s f) (length s / 12) (omega arith)) (left-false (ltb f (functions s))))
-    where
-      left-false : (b : Bool) → (b && false) ≡ false
-      left-false true = refl
-      left-false false = refl
+  no-room n e h = absent (rw (lt-leb (startOf s f + countOf s f) (length s / 12) (omega arith)) (and-false (ltb f (functions s))))
 
   -- a part starts past the function records
   pub past-functions : (n : ℕ) → n ≤ functions s → n < startOf s f + countOf s f

@@ -1,6 +1,6 @@
 -- Facts on tests that are true or false.
 use mathlib.Core.Path.{_≡_, refl, sym, _∙_}
-use mathlib.Core.Bool.{Bool, true, false, _||_, _&&_, not, or-true, false≢true}
+use mathlib.Core.Bool.{Bool, true, false, _||_, _&&_, or-true, false≢true}
 
 pub both-mono : (a a′ b b′ : Bool) → (a ≡ true → a′ ≡ true) → (b ≡ true → b′ ≡ true) → (a && b) ≡ true → (a′ && b′) ≡ true
 both-mono true a′ true b′ h k e = rw (h refl, k refl)
@@ -23,10 +23,6 @@ and-right false b e = absurd (false≢true e)
 pub and-both : (a b : Bool) → a ≡ true → b ≡ true → (a && b) ≡ true
 and-both a b e f = rw (e, f)
 
-pub not-true : (b : Bool) → not b ≡ true → b ≡ false
-not-true true e = sym e
-not-true false e = refl
-
 pub or-false-left : (a b : Bool) → (a || b) ≡ false → a ≡ false
 or-false-left true b e = e
 or-false-left false b e = refl
@@ -37,6 +33,9 @@ or-false-right false b e = e
 
 pub or-more : (a b : Bool) → a ≡ true → (a || b) ≡ true
 or-more a b e = rw e
+
+pub or-last : (a b : Bool) → b ≡ true → (a || b) ≡ true
+or-last a b e = rw e (or-true a)
 
 -- by cases on a test, with its equation
 pub by : {C : Type 0} → (b : Bool) → (b ≡ true → C) → (b ≡ false → C) → C

@@ -4,4 +4,5 @@ pub mod Arities
 pub mod Loops
 pub mod Parts
 pub mod Tables
+pub mod Masks
 pub mod Children

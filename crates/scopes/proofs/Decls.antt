@@ -1,6 +1,6 @@
 -- What one more node changes in the count and the table of decls.
 use mathlib.Core.Path.{_≡_, refl, sym, ap, _∙_}
-use mathlib.Core.Bool.{Bool, true, false, not, _&&_, _||_}
+use mathlib.Core.Bool.{Bool, true, false, not, _&&_, _||_, or-true, or-false}
 use mathlib.Core.List.{List}
 use Prim.Native.Nat.{ℕ, zero, suc, _+_, _*_, _-_, _≤_, _<_, zero-le}
 use native.Mathlib.Omega.{arith}
@@ -17,14 +17,6 @@ use Rattle.language.specs.Nodes.{outside}
 use Rattle.language.specs.Known.{Known, namesVariable}
 use Rattle.scopes.specs.Counts.{Named, Counts, Decls, Noted}
 use Rattle.scopes.specs.declared.Declared.{Declared}
-
-or-false : (a : Bool) → a || false ≡ a
-or-false true = refl
-or-false false = refl
-
-or-true : (a : Bool) → a || true ≡ true
-or-true true = refl
-or-true false = refl
 
 -- a node that is no decl of x
 module _ (t : List ℕ) (i x : ℕ) (h : declaresAt t i x ≡ false) where

@@ -54,15 +54,15 @@ right false b e = let z : _≡_ {A = ℕ} 0 1 = cc in absurd (omega arith)
 
 -- the lowest below w of the numbers below v that pass u
 module _ (u : ℕ → Bool) (v w : ℕ) (h : v ≤ w) where
+  drop-test : (k : ℕ) → k < v → ltb k v && u k ≡ false → u k ≡ false
+  drop-test k l q = rw (lt-ltb k v l) at q
+
   pub found-within : (x : ℕ) → x ≡ lowest (λ y. ltb y v && u y) w → x < w → At 0 x ≡ firstUndeclared (lowest u v) v
   unfolding firstUndeclared
   found-within x e l =
       let p : ltb x v && u x ≡ true = rw e (lowest-passes (λ y. ltb y v && u y) w (rw e at l)) in
       let m : x < v = ltb-true x v (left (ltb x v) (u x) p) in
       rw (lowest-at u v x m (λ k q. drop-test k (omega arith) (lowest-below (λ y. ltb y v && u y) w k (rw e at q))) (right (ltb x v) (u x) p), lt-ltb x v m)
-    where
-      drop-test : (k : ℕ) → k < v → ltb k v && u k ≡ false → u k ≡ false
-      drop-test k l q = rw (lt-ltb k v l) at q
 
   pub none-within : (x : ℕ) → x ≡ lowest (λ y. ltb y v && u y) w → w ≤ x → Nothing ≡ firstUndeclared (lowest u v) v
   unfolding firstUndeclared
@@ -71,6 +71,3 @@ module _ (u : ℕ → Bool) (v w : ℕ) (h : v ≤ w) where
     where
       below-x : (k : ℕ) → k < v → k < x
       below-x k q = omega arith
-
-      drop-test : (k : ℕ) → k < v → ltb k v && u k ≡ false → u k ≡ false
-      drop-test k l q = rw (lt-ltb k v l) at q

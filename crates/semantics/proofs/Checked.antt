@@ -20,7 +20,7 @@ use Rattle.semantics.specs.Program.{op, fn, Ref, node, ifOf, seqOf, Look
 use Rattle.semantics.specs.Fit.{isExpr, isStmt, IsExpr, IsStmt, AllExpr}
 use Rattle.semantics.specs.File.{kids, lookAt, formAt, ifForm, seqForm, seeAt, funOf, programOf}
 use Rattle.semantics.proofs.Accepted.{GoodE, GoodS}
-use Rattle.semantics.proofs.Levels.{two-kids, by-look, by-form}
+use Rattle.semantics.proofs.Levels.{two-kids, by-look, by-form, by-while}
 use Rattle.semantics.proofs.Operands.{kids-types, kids-each}
 use Rattle.semantics.proofs.Nodes.{variable-type-is, has-variable, expression-at, statement-at, argument-is}
 
@@ -100,33 +100,23 @@ module _ (s : List ℕ) (h : Accepted s) (f : ℕ) (l : f < functions s) where
   module _ (w : ℕ) (p : w < n) where
     pub if-good : (x : Form) → formAt t w ≡ x → isStmt (ifForm w x) ≡ true → GoodS (programOf s) f (ifForm w x)
     unfolding programOf seeAt ifForm seqForm
-    if-good (Form.while v e a) q r =
-        let g : GoodS (programOf s) f (Form.while v e a) = rw q at (statement-good w p (rw q)) in
-        (g .0, g .1, (lt-ltb w n p, rw q), (refl, refl))
-    if-good Form.nop q r = absurd (false≢true r)
-    if-good (Form.seq a b) q r = absurd (false≢true r)
-    if-good (Form.assign x e) q r = absurd (false≢true r)
-    if-good (Form.decl x a) q r = absurd (false≢true r)
-    if-good (Form.if e a b) q r = absurd (false≢true r)
-    if-good (Form.return e) q r = absurd (false≢true r)
-    if-good (Form.assert e) q r = absurd (false≢true r)
-    if-good (Form.expr e) q r = absurd (false≢true r)
-    if-good Form.stray q r = absurd (false≢true r)
+    if-good x q r =
+        by-while w x
+        (λ v e a z.
+        let y : formAt t w ≡ Form.while v e a = q ∙ z in
+        let g : GoodS (programOf s) f (Form.while v e a) = rw y at (statement-good w p (rw y)) in
+        rw z (g .0, g .1, (lt-ltb w n p, rw y), (refl, refl)))
+        (λ z y. absurd (false≢true (rw z at r)))
 
     pub seq-good : (x : Form) → formAt t w ≡ x → isStmt (seqForm w x) ≡ true → GoodS (programOf s) f (seqForm w x)
     unfolding programOf seeAt seqForm
-    seq-good (Form.while v e a) q r =
-        let g : GoodS (programOf s) f (Form.while v e a) = rw q at (statement-good w p (rw q)) in
-        (g .2, (rw (q, lt-ltb w n p), rw q))
-    seq-good Form.nop q r = absurd (false≢true r)
-    seq-good (Form.seq a b) q r = absurd (false≢true r)
-    seq-good (Form.assign x e) q r = absurd (false≢true r)
-    seq-good (Form.decl x a) q r = absurd (false≢true r)
-    seq-good (Form.if e a b) q r = absurd (false≢true r)
-    seq-good (Form.return e) q r = absurd (false≢true r)
-    seq-good (Form.assert e) q r = absurd (false≢true r)
-    seq-good (Form.expr e) q r = absurd (false≢true r)
-    seq-good Form.stray q r = absurd (false≢true r)
+    seq-good x q r =
+        by-while w x
+        (λ v e a z.
+        let y : formAt t w ≡ Form.while v e a = q ∙ z in
+        let g : GoodS (programOf s) f (Form.while v e a) = rw y at (statement-good w p (rw y)) in
+        rw z (g .2, (rw (y, lt-ltb w n p), rw y)))
+        (λ z y. absurd (false≢true (rw y at r)))
 
   -- every statement
   pub all-good : (r : Ref) → IsStmt (programOf s) f r → GoodS (programOf s) f (seeAt t r)

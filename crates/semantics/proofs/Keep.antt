@@ -5,11 +5,11 @@ use mathlib.Core.Bool.{true, _&&_, or-assoc, and-false as false-right}
 use mathlib.Core.List.{List, [], _∷_, _++_}
 use Prim.Native.Nat.{ℕ}
 use lib.ListN.{set}
-use Rattle.varset.specs.Sets.{Set, without, both}
+use Rattle.varset.specs.Sets.{Set, without, both, Sub}
 use Rattle.records.proofs.Bools.{either-mono, and-left, and-right}
 use Rattle.language.specs.Statements.{Statement, While}
 use Rattle.language.specs.Flow.{leaves, returns}
-use Rattle.language.proofs.Flows.{Sub, Scope, ok-seq, ok-assign, ok-decl, ok-if, ok-return, ok-assert, ok-expr, while-ok, while-leaves}
+use Rattle.language.proofs.Flows.{Scope, ok-seq, ok-assign, ok-decl, ok-if, ok-return, ok-assert, ok-expr, while-ok, while-leaves}
 use Rattle.semantics.specs.Values.{tBool, Value, nothing, typeV}
 use Rattle.semantics.specs.Program.{fn, node, Look, apply, Form, Program, owns, varTypes, varType, gives}
 use Rattle.semantics.specs.Machine.{saved, State, Rule, Event, Step, first, enter, op-value, op-arith, and-first, and-false, and-true, call-none, call-main, assert-true, assert-false, if-true, if-false, leave-main}

@@ -3,30 +3,20 @@ use mathlib.Core.Path.{_≡_, refl, sym, ap, _∙_}
 use mathlib.Core.Logic.{_⊎_, inl, inr, ⊎-elim}
 use mathlib.Core.Bool.{Bool, true, false}
 use mathlib.Core.List.{List, [], _∷_}
-use Prim.Native.Nat.{ℕ, zero, suc, _-_, _≤_, _<_, suc-le-suc, zero-le}
+use Prim.Native.Nat.{ℕ, zero, suc, _-_, _≤_, _<_}
 use native.Mathlib.Omega.{arith}
 use lib.Dec.{eqb}
-use lib.ListN.{getD, length}
+use lib.ListN.{getD}
 use borrow.Author.Tests.{eqb-true, eqb-false}
 use Rattle.varset.specs.Lowest.{pick}
 use Rattle.records.specs.Fields.{kindAt, aAt, bAt}
 use Rattle.records.specs.Children.{arities, arityOf, arityAt, walk, children}
 use Rattle.language.specs.Statements.{Shape, prior, last, shapes, shapeAt, readsOf, Nop, statementIn, statementAt}
+use Rattle.records.proofs.Tables.{entry-at}
 use Rattle.language.proofs.Trees.{statement-seq, statement-assign, statement-decl, statement-if, statement-while, statement-return, statement-assert, statement-expr, statement-rest, statement-nop}
 use Rattle.semantics.specs.Values.{nothing, int, truth}
 use Rattle.semantics.specs.Program.{op, fn, Ref, node, ifOf, seqOf, Look, const, apply, Form, growF}
 use Rattle.semantics.specs.File.{backwards, kids, andOf, looks, lookAt, refAt, formOf, formAt, ifForm, seqForm, seeAt, unrolled, looped, stmtAt}
-
--- a property of the entries of a table, by their numbers
-abbrev Entries : {A : Type 0} → (ℕ → A → Type 0) → List A → Type 0
-Entries P [] = Unit {0}
-Entries P (x ∷ xs) = P 0 x × Entries (λ k. P (suc k)) xs
-
--- the entry at k, or past the table's end the default
-entry-at : {A : Type 0} (P : ℕ → A → Type 0) (xs : List A) (d : A) → Entries P xs → ((k : ℕ) → length xs ≤ k → P k d) → (k : ℕ) → P k (getD xs k d)
-entry-at P [] d h z k = z k zero-le
-entry-at P (x ∷ xs) d h z zero = h .0
-entry-at P (x ∷ xs) d h z (suc k) = entry-at (λ k. P (suc k)) xs d (h .1) (λ k l. z (suc k) (suc-le-suc l)) k
 
 module _ (t : List ℕ) (i : ℕ) where
   -- an operator and an && have two children
@@ -178,32 +168,28 @@ named i (Form.assert e) = i
 named i (Form.expr e) = i
 named i Form.stray = i
 
+-- a form is a while's, or there is no if and no seq of it
+pub by-while : {C : Type 0} (w : ℕ) (x : Form) → ((v e : ℕ) (a : Ref) → x ≡ Form.while v e a → C) → (ifForm w x ≡ Form.stray → seqForm w x ≡ Form.stray → C) → C
+unfolding ifForm seqForm
+by-while w (Form.while v e a) f g = f v e a refl
+by-while w Form.nop f g = g refl refl
+by-while w (Form.seq a b) f g = g refl refl
+by-while w (Form.assign x e) f g = g refl refl
+by-while w (Form.decl x a) f g = g refl refl
+by-while w (Form.if e a b) f g = g refl refl
+by-while w (Form.return e) f g = g refl refl
+by-while w (Form.assert e) f g = g refl refl
+by-while w (Form.expr e) f g = g refl refl
+by-while w Form.stray f g = g refl refl
+
 -- an if's and a seq's form is no while's
 if-named : (i w : ℕ) (s : Form) → named i (ifForm w s) ≡ i
 unfolding ifForm
-if-named i w (Form.while v e a) = refl
-if-named i w Form.nop = refl
-if-named i w (Form.seq a b) = refl
-if-named i w (Form.assign x e) = refl
-if-named i w (Form.decl x a) = refl
-if-named i w (Form.if e a b) = refl
-if-named i w (Form.return e) = refl
-if-named i w (Form.assert e) = refl
-if-named i w (Form.expr e) = refl
-if-named i w Form.stray = refl
+if-named i w s = by-while w s (λ v e a q. rw q) (λ p q. rw p)
 
 seq-named : (i w : ℕ) (s : Form) → named i (seqForm w s) ≡ i
 unfolding seqForm
-seq-named i w (Form.while v e a) = refl
-seq-named i w Form.nop = refl
-seq-named i w (Form.seq a b) = refl
-seq-named i w (Form.assign x e) = refl
-seq-named i w (Form.decl x a) = refl
-seq-named i w (Form.if e a b) = refl
-seq-named i w (Form.return e) = refl
-seq-named i w (Form.assert e) = refl
-seq-named i w (Form.expr e) = refl
-seq-named i w Form.stray = refl
+seq-named i w s = by-while w s (λ v e a q. rw q) (λ p q. rw q)
 
 module _ (t : List ℕ) (w e : ℕ) (a : Ref) where
   -- a while names its own node

@@ -4,10 +4,10 @@ use mathlib.Core.Bool.{true}
 use mathlib.Core.List.{List, [], _∷_, map}
 use Prim.Native.Nat.{ℕ}
 use lib.ListN.{set}
-use Rattle.varset.specs.Sets.{Set, with, both}
+use Rattle.varset.specs.Sets.{Set, with, both, Sub}
 use Rattle.records.proofs.Bools.{both-mono, either-mono}
 use Rattle.language.specs.Flow.{leaves, returns}
-use Rattle.language.proofs.Flows.{Sub, reads-mono, ok-nop, ok-mono, leaves-mono, Unrolled}
+use Rattle.language.proofs.Flows.{reads-mono, ok-nop, ok-mono, leaves-mono, Unrolled}
 use Rattle.semantics.specs.Values.{Ty, Value, typeV}
 use Rattle.semantics.specs.Program.{Ref, ifOf, seqOf, growF, Look, const, apply, Form, Program, typeN, varTypes}
 use Rattle.semantics.specs.Machine.{Frame, gather, and, wait, branch, check, Control, val, exec, Saved, Ambient, reach, reachL, entered}

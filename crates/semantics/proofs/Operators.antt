@@ -6,20 +6,16 @@ use Prim.Native.Nat.{ℕ, _-_, _^_, _<_}
 use native.Mathlib.Omega.{arith}
 use lib.Bits.{and-lt, or-lt, xor-lt}
 use lib.Dec.{ltb}
-use lib.IntN.{ℤ, pos, negsuc}
+use lib.IntN.{ℤ}
 use Rattle.varset.specs.Lowest.{pick}
 use Rattle.arith.specs.Int.{wrap}
+use Rattle.arith.proofs.Words.{wrap-below}
 use Rattle.arith.specs.Operators.{addOf, subOf, mulOf, quotOf, remOf, shlOf, shrOf, andOf, orOf, xorOf, noQuotient, divided, shifted, results, applied}
 use Rattle.arith.specs.declared.Applied.{Applied}
 use Rattle.arith.specs.declared.Applied.the-variants.{Int, Truth, Arith}
 use Rattle.semantics.specs.Values.{Value, int, truth, tInt, tBool, typeV, given, result}
 use Rattle.semantics.specs.Fit.{Word}
 use Rattle.records.proofs.Tables.{each-at}
-
-pub wrap-word : (z : ℤ) → wrap z < 2 ^ 32
-unfolding wrap
-wrap-word (pos n) = omega arith
-wrap-word (negsuc n) = omega arith
 
 divided-is : (Q : Applied → Type 0) (a b c : ℕ) → Q Arith → Q (Int c) → Q (divided a b c)
 unfolding divided
@@ -42,13 +38,13 @@ ResultType o (Truth t) = tBool ≡ pick (ltb o 10) tInt tBool
 ResultType o Arith = Unit {0}
 
 divided-word : (a b : ℕ) (z : ℤ) → ResultWord (divided a b (wrap z))
-divided-word a b z = divided-is ResultWord a b (wrap z) tt (wrap-word z)
+divided-word a b z = divided-is ResultWord a b (wrap z) tt (wrap-below z)
 
 applied-word : (e o a b : ℕ) → a < 2 ^ 32 → b < 2 ^ 32 → ResultWord (applied e o a b)
 unfolding addOf subOf mulOf quotOf remOf shlOf shrOf andOf orOf xorOf shifted results applied
 applied-word e o a b h k =
     each-at (λ o. ResultWord) (results e a b) Arith
-    (wrap-word _, (wrap-word _, (wrap-word _, (divided-word a b _, (divided-word a b _, (wrap-word _, (wrap-word _, (and-lt 32 a b h k, (or-lt 32 a b h k, (xor-lt 32 a b h k, (tt, (tt, (tt, (tt, (tt, (tt, tt))))))))))))))))
+    (wrap-below _, (wrap-below _, (wrap-below _, (divided-word a b _, (divided-word a b _, (wrap-below _, (wrap-below _, (and-lt 32 a b h k, (or-lt 32 a b h k, (xor-lt 32 a b h k, (tt, (tt, (tt, (tt, (tt, (tt, tt))))))))))))))))
     (λ o. tt)
     o
 

@@ -96,15 +96,19 @@ module _ (P : Program) (constants : ConstWords P) where
 abbrev pub Bytes : List ℕ → Type 0
 Bytes s = (i : ℕ) → getD s i 0 < 256
 
-take-bytes : (n : ℕ) (s : List ℕ) → Bytes s → Bytes (take n s)
-take-bytes zero s h i = omega arith
-take-bytes (suc n) [] h i = omega arith
-take-bytes (suc n) (b ∷ s) h zero = h 0
-take-bytes (suc n) (b ∷ s) h (suc i) = take-bytes n s (λ j. h (suc j)) i
+-- what is below a bound in a list is so in its first elements, and in the later ones
+pub take-below : (m n : ℕ) (l : List ℕ) → ((i : ℕ) → getD l i 0 < m) → (i : ℕ) → getD (take n l) i 0 < m
+take-below m zero l h i = omega (arith, h i)
+take-below m (suc n) [] h i = h i
+take-below m (suc n) (x ∷ l) h zero = h 0
+take-below m (suc n) (x ∷ l) h (suc i) = take-below m n l (λ j. h (suc j)) i
+
+pub drop-below : (m n : ℕ) (l : List ℕ) → ((i : ℕ) → getD l i 0 < m) → (i : ℕ) → getD (drop n l) i 0 < m
+drop-below m n l h i = rw (getD-drop n l i 0) (h (n + i))
 
 part-bytes : (s : List ℕ) (f : ℕ) → Bytes s → Bytes (partOf s f)
 unfolding partOf
-part-bytes s f h = take-bytes (12 * countOf s f) (drop (12 * startOf s f) s) (λ i. rw (getD-drop (12 * startOf s f) s i 0) (h _))
+part-bytes s f h = take-below 256 (12 * countOf s f) (drop (12 * startOf s f) s) (drop-below 256 (12 * startOf s f) s h)
 
 b-word : (t : List ℕ) (i : ℕ) → Bytes t → bAt t i < 2 ^ 32
 unfolding bAt u32At u16At

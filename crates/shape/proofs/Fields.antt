@@ -2,11 +2,9 @@
 use mathlib.Core.Path.{_≡_, refl, sym}
 use mathlib.Core.Bool.{Bool, true, false, _&&_}
 use mathlib.Core.List.{List}
-use Prim.Native.Nat.{ℕ, zero, suc, _+_, _*_, _%_, _^_, _≤_, _<_}
-use native.Mathlib.Nat.{one-mul}
+use Prim.Native.Nat.{ℕ, zero, suc, _+_, _≤_, _<_}
 use native.Mathlib.Omega.{arith}
-use lib.Dec.{eqb, leb, ltb, lit<}
-use lib.Pow.{shl-exact}
+use lib.Dec.{eqb, leb}
 use lib.ListN.{List·getD-eq-default}
 use borrow.Author.Tests.{eqb-true, eqb-false, lt-leb}
 use Rattle.records.specs.Fields.{markAt, resultOf, paramsOf}
@@ -49,7 +47,3 @@ params-many s f h = rw (lt-leb (paramsOf s f) 8 h) (go (eqb (markAt s (1 + f)) 2
     go true true = refl
     go true false = refl
     go false b = refl
-
--- 2 to a power of up to 8 in a word of 32 bits
-pub mask-exact : (mask p : ℕ) → p ≤ 8 → ltb mask (1 * 2 ^ p % 4294967296) ≡ ltb mask (2 ^ p)
-mask-exact mask p h = rw (shl-exact 1 p 32 (lit< tt) (omega arith), one-mul)

@@ -1,12 +1,12 @@
 -- Where a fit state stands in the file.
-use mathlib.Core.Path.{_≡_, refl, sym, ap, _∙_}
+use mathlib.Core.Path.{_≡_, sym, ap, _∙_}
 use mathlib.Core.Bool.{Bool, true, false, _&&_, not, false≢true, true≢false}
 use mathlib.Core.List.{List, [], _∷_, _++_}
 use Prim.Native.Nat.{ℕ, _+_, _*_, _-_, _≤_, _<_}
 use native.Mathlib.Omega.{arith}
 use lib.Dec.{ltb, eqb}
 use lib.ListN.{length, take, drop}
-use borrow.Author.Tests.{ltb-true}
+use borrow.Author.Tests.{ltb-true, not-true}
 use Rattle.records.specs.Fields.{functions, countOf, kindAt, aAt, bAt}
 use Rattle.records.specs.Parts.{startOf, partOf, Laid}
 use Rattle.records.proofs.Bools.{and-left, and-right}
@@ -67,10 +67,6 @@ loop-seq t w =
     (λ e b. absurd (false≢true b)) (λ e p b. absurd (false≢true b)) (λ e p b. absurd (false≢true b)) (λ e p b. absurd (false≢true b)) (λ e p b. absurd (false≢true b))
     (λ e p b. (p, e)) (λ e p b. absurd (false≢true b)) (λ e p b. absurd (false≢true b)) (λ e p b. absurd (false≢true b)) (λ n z b. absurd (false≢true b))
 
-not-nop : (b : Bool) → not b ≡ true → b ≡ false
-not-nop true e = absurd (false≢true e)
-not-nop false e = refl
-
 module _ (s table : List ℕ) (c : Control) (h : Head) (l : List ℕ) (st : Stands s table c h l) where
   pub known : h .function < functions s
   unfolding programOf
@@ -127,7 +123,7 @@ module _ (s table t : List ℕ) (h : Head) (l : List ℕ) (part : t ≡ partOf s
       let o = and-left (ltb i (countOf s (h .function))) (not (isNop (formAt (partOf s (h .function)) i))) (g .0) in
       let n = ltb-true _ _ o in
       let w = inside (exec (node i)) st i n in
-      let q = executed (partOf s (h .function)) i (not-nop _ (and-right (ltb i (countOf s (h .function))) (not (isNop (formAt (partOf s (h .function)) i))) (g .0))) (g .1) in
+      let q = executed (partOf s (h .function)) i (not-true _ (and-right (ltb i (countOf s (h .function))) (not (isNop (formAt (partOf s (h .function)) i))) (g .0))) (g .1) in
       let k = nodes (exec (node i)) st in
       ((w .0, w .1, q .0), rw part (q .1), rw part (q .2), rw part (λ e. k .variable i n (rw e)))
   executes Ref.nop st = tt

@@ -1,22 +1,19 @@
 -- The summary of a statement from those of its parts, for sets of any width.
 use mathlib.Core.Path.{_≡_, refl, sym, ap, _∙_}
-use mathlib.Core.Bool.{Bool, true, false, not, _&&_, _||_, or-true}
+use mathlib.Core.Bool.{Bool, true, false, not, _&&_, _||_}
 use mathlib.Core.List.{List}
 use mathlib.Core.Logic.{_↔_}
 use Prim.Native.Nat.{ℕ}
 use lib.Dec.{eqb}
-use borrow.Author.Tests.{eqb-true, eq-eqb}
-use Rattle.varset.specs.Sets.{Set, has, none, with, without, both, either, less}
+use borrow.Author.Tests.{eqb-true, eq-eqb, not-true}
+use Rattle.varset.specs.Sets.{Set, has, none, with, without, both, either, less, Sub}
 use Rattle.records.specs.declared.Found.the-variants.{Nothing}
-use Rattle.records.proofs.Bools.{and-left, and-right, and-both, not-true, or-more, by, or-cases, clash}
+use Rattle.records.proofs.Bools.{and-left, and-right, and-both, or-more, by, or-cases, clash, or-last}
 use Rattle.language.specs.Statements.{Read, Statement, Nop, Seq, Assign, Decl, If, While, Return, Assert, Expr}
 use Rattle.language.specs.Flow.{declares, leaves, missing, lacks, returns}
 use Rattle.language.proofs.Flows.{ok-nop, ok-seq, ok-assign, ok-decl, ok-if, ok-while, ok-return, ok-assert, ok-expr}
-use Rattle.summaries.specs.Summary.{Sub, Needs, Summary}
+use Rattle.summaries.specs.Summary.{Needs, Summary}
 use Rattle.summaries.proofs.Tables.{in-turn, in-branches, in-scope, as-found, adding, dropping}
-
-or-last : (a b : Bool) → b ≡ true → (a || b) ≡ true
-or-last a b e = rw e (or-true a)
 
 empty-sub : (e : Set) (n : ℕ) → has n ≡ none → Sub (has n) e
 unfolding none

@@ -1,16 +1,12 @@
 -- What a statement, and the reads of an expression, do to any set of variables with values, said by words.
 use mathlib.Core.Path.{_≡_}
-use mathlib.Core.Bool.{Bool, true, false}
+use mathlib.Core.Bool.{Bool, false}
 use mathlib.Core.List.{List}
 use Prim.Native.Nat.{ℕ}
-use Rattle.varset.specs.Sets.{Set, has, either, less}
+use Rattle.varset.specs.Sets.{Set, has, either, less, Sub}
 use Rattle.records.specs.declared.Found.the-variants.{Nothing}
 use Rattle.language.specs.Statements.{Read, Statement}
 use Rattle.language.specs.Flow.{declares, leaves, missing, lacks, returns}
-
--- each member of d is one of e
-abbrev pub Sub : Set → Set → Type 0
-Sub d e = (x : ℕ) → d x ≡ true → e x ≡ true
 
 -- the reads find every variable they read in d exactly where the words' members are in d
 pub record Needs (rs : List Read) (needs : ℕ) : Type 0 where

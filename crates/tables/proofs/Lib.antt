@@ -1,5 +1,5 @@
 mod Ranges
 mod Filling
-mod Arms
+pub mod Arms
 mod Stored
 pub mod Looking

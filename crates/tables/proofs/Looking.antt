@@ -11,7 +11,7 @@ use Rattle.records.specs.Fields.{kindAt, sizeAt}
 use Rattle.records.specs.Children.{arityOf, arities}
 use Rattle.records.proofs.Bools.{and-left, and-right}
 use Rattle.language.specs.Sorts.{isExpression, wantsExpression}
-use Rattle.language.specs.Statements.{Statement, last, prior, readsOf, statementAt}
+use Rattle.language.specs.Statements.{last, prior, readsOf, statementAt}
 use Rattle.semantics.specs.Program.{node}
 use Rattle.semantics.specs.File.{programOf}
 use Rattle.semantics.specs.Test.{exprIn, stmtIn}
@@ -19,13 +19,7 @@ use Rattle.summaries.specs.Summary.{Needs}
 use Rattle.nodefacts.specs.Part.{Part}
 use Rattle.nodefacts.proofs.Sorts.{own-expression, expression-inside, node-sort}
 use Rattle.tables.specs.Tables.{wordOf, Rowed, Filled, Tabled}
-use Rattle.rows.specs.declared.Row.{Row}
-use Rattle.rows.specs.Rows.{Sums}
-use Rattle.tables.proofs.Arms.{RowIs, row-sums, sorted, kid}
-
--- what a row read from the table says
-pub sums-of : {s : Statement} {r : Row} (table : List ℕ) (k : ℕ) → RowIs r table k → Rowed s table k → Sums s r
-sums-of = row-sums
+use Rattle.tables.proofs.Arms.{sorted, kid}
 
 -- kinds 7 to 14 are no expressions
 no-expression : (k : ℕ) → 7 ≤ k → k ≤ 14 → isExpression k ≡ false

@@ -1,22 +1,19 @@
 -- The reads of the nodes of a range, and of an expression's subtree.
 use mathlib.Core.Path.{_≡_, refl, ap, _∙_}
-use mathlib.Core.Bool.{Bool, true, false, _||_, or-true}
+use mathlib.Core.Bool.{true, false}
 use mathlib.Core.List.{List}
 use Prim.Native.Nat.{ℕ, _+_, _-_, _≤_, _<_}
 use native.Mathlib.Omega.{arith}
 use native.Mathlib.Decide.{decLt}
 use lib.Dec.{eqb}
 use borrow.Author.Tests.{eqb-true, eq-eqb}
-use Rattle.varset.specs.Sets.{Set, has, none, with, either}
+use Rattle.varset.specs.Sets.{Set, has, none, with, either, Sub}
 use Rattle.records.specs.Fields.{kindAt, bAt, sizeAt}
-use Rattle.records.proofs.Bools.{or-cases, or-more, clash}
+use Rattle.records.proofs.Bools.{or-cases, or-more, clash, or-last}
 use Rattle.language.specs.Statements.{readsOf}
 use Rattle.language.proofs.Subtrees.{reads-nodes}
-use Rattle.summaries.specs.Summary.{Sub, Needs}
+use Rattle.summaries.specs.Summary.{Needs}
 use Rattle.tables.specs.Tables.{Within, Range}
-
-or-last : (a b : Bool) → b ≡ true → (a || b) ≡ true
-or-last a b e = rw e (or-true a)
 
 -- a node that reads no variable
 pub none-read : (t : List ℕ) (i w : ℕ) → (kindAt t i ≡ 2 → ⊥) → has w ≡ none → Range t i (i + 1) w

@@ -39,8 +39,8 @@ module _ (table stored : List ℕ) (i a b c d e : ℕ) (room : 5 * i + 5 ≤ len
 
   -- one row more, of an expression and of a statement
   module _ {t : List ℕ} (o : Filled t table i) where
-    pub more-reads : isExpression (kindAt t i) ≡ true → Needs (readsOf t i) b → Filled t stored (i + 1)
-    more-reads x n =
+    more : (isExpression (kindAt t i) ≡ true → Needs (readsOf t i) (wordOf stored i 1)) → (isExpression (kindAt t i) ≡ false → Rowed (statementAt t i) stored i) → Filled t stored (i + 1)
+    more n m =
         record {
           reads = λ k l y. near-reads k l y (decLt k i);
           flows = λ k l y. near-flows k l y (decLt k i);
@@ -48,29 +48,20 @@ module _ (table stored : List ℕ) (i a b c d e : ℕ) (room : 5 * i + 5 ≤ len
       where
         near-reads : (k : ℕ) → k < i + 1 → isExpression (kindAt t k) ≡ true → Dec (k < i) → Needs (readsOf t k) (wordOf stored k 1)
         near-reads k l y (yes h) = rw (before k 1 h (omega arith)) (o .reads k h y)
-        near-reads k l y (no h) = let q : k ≡ i = omega arith in rw (q, here 1 (omega arith)) n
+        near-reads k l y (no h) = let q : k ≡ i = omega arith in rw q (n (rw q at y))
 
         near-flows : (k : ℕ) → k < i + 1 → isExpression (kindAt t k) ≡ false → Dec (k < i) → Rowed (statementAt t k) stored k
         near-flows k l y (yes h) = rw (before k 0 h (omega arith), before k 1 h (omega arith), before k 2 h (omega arith), before k 3 h (omega arith), before k 4 h (omega arith)) (o .flows k h y)
-        near-flows k l y (no h) = let q : k ≡ i = omega arith in clash (isExpression (kindAt t i)) x (rw q at y)
+        near-flows k l y (no h) = let q : k ≡ i = omega arith in rw q (m (rw q at y))
+
+    pub more-reads : isExpression (kindAt t i) ≡ true → Needs (readsOf t i) b → Filled t stored (i + 1)
+    more-reads x n = more (λ y. rw (here 1 (omega arith)) n) (λ y. clash (isExpression (kindAt t i)) x y)
 
     pub more-flows : {r : Row} → isExpression (kindAt t i) ≡ false → Sums (statementAt t i) r → (failsIn a ≡ r .fails) × (returnsIn a ≡ r .returned)
         → b ≡ r .needs .0 → c ≡ r .adds .0 → d ≡ r .drops .0 → e ≡ r .declared .0 → Filled t stored (i + 1)
     more-flows {r} x n g u₁ u₂ u₃ u₄ =
-        record {
-          reads = λ k l y. near-reads k l y (decLt k i);
-          flows = λ k l y. near-flows k l y (decLt k i);
-        }
-      where
-        near-reads : (k : ℕ) → k < i + 1 → isExpression (kindAt t k) ≡ true → Dec (k < i) → Needs (readsOf t k) (wordOf stored k 1)
-        near-reads k l y (yes h) = rw (before k 1 h (omega arith)) (o .reads k h y)
-        near-reads k l y (no h) = let q : k ≡ i = omega arith in clash (isExpression (kindAt t i)) (rw q at y) x
-
-        near-flows : (k : ℕ) → k < i + 1 → isExpression (kindAt t k) ≡ false → Dec (k < i) → Rowed (statementAt t k) stored k
-        near-flows k l y (yes h) = rw (before k 0 h (omega arith), before k 1 h (omega arith), before k 2 h (omega arith), before k 3 h (omega arith), before k 4 h (omega arith)) (o .flows k h y)
-        near-flows k l y (no h) =
-            let q : k ≡ i = omega arith in
-            rw (q, here 0 (omega arith), here 1 (omega arith), here 2 (omega arith), here 3 (omega arith), here 4 (omega arith), g .0, g .1, u₁, u₂, u₃, u₄) n
+        more (λ y. clash (isExpression (kindAt t i)) y x)
+        (λ y. rw (here 0 (omega arith), here 1 (omega arith), here 2 (omega arith), here 3 (omega arith), here 4 (omega arith), g .0, g .1, u₁, u₂, u₃, u₄) n)
 
 pub none-filled : (t table : List ℕ) → Filled t table 0
 none-filled t table = record { reads = λ k l y. absurd (omega arith); flows = λ k l y. absurd (omega arith) }

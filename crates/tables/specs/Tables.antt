@@ -5,11 +5,11 @@ use mathlib.Core.List.{List}
 use Prim.Native.Nat.{ℕ, _+_, _*_, _%_, _≤_, _<_}
 use lib.Dec.{eqb, leb}
 use lib.ListN.{length, getD}
-use Rattle.varset.specs.Sets.{Set, has}
+use Rattle.varset.specs.Sets.{Set, has, Sub}
 use Rattle.records.specs.Fields.{kindAt, bAt}
 use Rattle.language.specs.Sorts.{isExpression}
 use Rattle.language.specs.Statements.{Statement, readsOf, statementAt}
-use Rattle.summaries.specs.Summary.{Sub, Needs, Summary}
+use Rattle.summaries.specs.Summary.{Needs, Summary}
 
 -- the nodes from lo on and before hi read variables of d alone
 abbrev pub Within : List ℕ → ℕ → ℕ → Set → Type 0

@@ -1,4 +1,5 @@
 -- Sets of variables: which numbers are members. A word stands for the set whose members are its set bits, at any width.
+use mathlib.Core.Path.{_≡_}
 use mathlib.Core.Bool.{Bool, true, false, not, _&&_, _||_}
 use Prim.Native.Nat.{ℕ, _/_, _%_, _^_}
 use lib.Dec.{eqb, ltb}
@@ -38,3 +39,7 @@ less s t j = s j && not (t j)
 -- the numbers below n
 unfoldable pub below : ℕ → Set
 below n j = ltb j n
+
+-- each member of d is one of e
+abbrev pub Sub : Set → Set → Type 0
+Sub d e = (x : ℕ) → d x ≡ true → e x ≡ true

@@ -1,5 +1,6 @@
 use Prim.Native.Nat.{ℕ}
-use Rattle.acceptance.proofs.Walk.{fits, asks, found, placed, shift-placed}
+use Rattle.acceptance.proofs.Walk.{asks, found, placed, shift-placed}
+use Rattle.acceptance.proofs.Passing.{part-room}
 use Rattle.records.proofs.Parts.{start-first, start-next, scan-found, scan-on, scan-end}
 use Rattle.language.specs.Check.{inPart}
 use Rattle.records.specs.Search.{firstIn}
@@ -31,13 +32,13 @@ count-of-requires : tie.Need-count-of-requires Inv-loop μ-loop
 count-of-requires c κs = omega (arith, (c .before .before .before .before .pre .0 .0 .heads), (c .before .before .function-count .ensures .0))
 
 mul-a : tie.Need-mul-a Inv-loop μ-loop
-mul-a c = omega (arith, fits (c .before .before .before .before .before .args .file .now) (c .before .before .before .before .before .args .q) (c .before .before .before .before .before .pre .0 .0) (c .before .before .before .function-count .ensures .0) (c .before .loop-test .taken) (c .before .before .loop .inv .1) (c .count-of .ensures .0))
+mul-a c = omega (arith, part-room (c .before .before .before .before .before .args .file .now) (c .before .before .before .before .before .pre .0 .0) (c .before .before .before .function-count .ensures .0) (c .before .loop-test .taken) (c .before .before .loop .inv .1) (c .count-of .ensures .0))
 
 add-e : tie.Need-add-e Inv-loop μ-loop
-add-e c = omega (arith, fits (c .before .before .before .before .before .args .file .now) (c .before .before .before .before .before .args .q) (c .before .before .before .before .before .pre .0 .0) (c .before .before .before .function-count .ensures .0) (c .before .loop-test .taken) (c .before .before .loop .inv .1) (c .count-of .ensures .0))
+add-e c = omega (arith, part-room (c .before .before .before .before .before .args .file .now) (c .before .before .before .before .before .pre .0 .0) (c .before .before .before .function-count .ensures .0) (c .before .loop-test .taken) (c .before .before .loop .inv .1) (c .count-of .ensures .0))
 
 mul-e : tie.Need-mul-e Inv-loop μ-loop
-mul-e c = omega (arith, fits (c .before .before .before .before .before .args .file .now) (c .before .before .before .before .before .args .q) (c .before .before .before .before .before .pre .0 .0) (c .before .before .before .function-count .ensures .0) (c .before .loop-test .taken) (c .before .before .loop .inv .1) (c .count-of .ensures .0))
+mul-e c = omega (arith, part-room (c .before .before .before .before .before .args .file .now) (c .before .before .before .before .before .pre .0 .0) (c .before .before .before .function-count .ensures .0) (c .before .loop-test .taken) (c .before .before .loop .inv .1) (c .count-of .ensures .0))
 
 sub-answer-in : tie.Need-sub-answer-in Inv-loop μ-loop
 sub-answer-in c = search needs
@@ -46,7 +47,7 @@ part-answer-in-start : tie.Need-part-answer-in-start Inv-loop μ-loop
 part-answer-in-start c = search needs
 
 part-answer-in-end : tie.Need-part-answer-in-end Inv-loop μ-loop
-part-answer-in-end c = fits (c .before .before .before .before .before .args .file .now) (c .before .before .before .before .before .args .q) (c .before .before .before .before .before .pre .0 .0) (c .before .before .before .function-count .ensures .0) (c .before .loop-test .taken) (c .before .before .loop .inv .1) (c .count-of .ensures .0)
+part-answer-in-end c = part-room (c .before .before .before .before .before .args .file .now) (c .before .before .before .before .before .pre .0 .0) (c .before .before .before .function-count .ensures .0) (c .before .loop-test .taken) (c .before .before .loop .inv .1) (c .count-of .ensures .0)
 
 answer-in-requires : tie.Need-answer-in-requires Inv-loop μ-loop
 answer-in-requires c κs = asks (c .before .before .before .before .before .before .args .file .now) (c .before .before .before .before .before .before .args .q) (c .before .before .before .before .before .before .pre .0 .0) (c .before .before .before .before .function-count .ensures .0) (c .before .before .loop-test .taken) (c .before .before .before .loop .inv .1) (c .before .count-of .ensures .0) (c .before .before .before .before .before .before .pre .0 .2) (c .before .before .before .before .before .before .pre .1)
@@ -67,7 +68,7 @@ enum-told : tie.Need-enum-told Inv-loop μ-loop
 enum-told c = search needs
 
 add-start-2 : tie.Need-add-start-2 Inv-loop μ-loop
-add-start-2 c = omega (arith, fits (c .before .before .before .before .before .before .before .before .before .before .before .args .file .now) (c .before .before .before .before .before .before .before .before .before .before .before .args .q) (c .before .before .before .before .before .before .before .before .before .before .before .pre .0 .0) (c .before .before .before .before .before .before .before .before .before .function-count .ensures .0) (c .before .before .before .before .before .before .before .loop-test .taken) (c .before .before .before .before .before .before .before .before .loop .inv .1) (c .before .before .before .before .before .before .count-of .ensures .0))
+add-start-2 c = omega (arith, part-room (c .before .before .before .before .before .before .before .before .before .before .before .args .file .now) (c .before .before .before .before .before .before .before .before .before .before .before .pre .0 .0) (c .before .before .before .before .before .before .before .before .before .function-count .ensures .0) (c .before .before .before .before .before .before .before .loop-test .taken) (c .before .before .before .before .before .before .before .before .loop .inv .1) (c .before .before .before .before .before .before .count-of .ensures .0))
 
 add-f : tie.Need-add-f Inv-loop μ-loop
 add-f c = search needs

@@ -1,5 +1,5 @@
-use Rattle.records.proofs.Bools.{not-true}
 use mathlib.Core.Path.{sym, _∙_}
+use borrow.Author.Tests.{not-true}
 use Rattle.effects.proofs.Parts.{scope-means}
 use borrow.Author.Needs.{needs}
 use Rattle.effects.proofs.in_scope.Statement.{statement}

@@ -1,6 +1,5 @@
-use Rattle.records.proofs.Bools.{not-true}
+use borrow.Author.Tests.{not-true, not-false}
 use Rattle.faults.specs.Records.{firstFault}
-use Rattle.faults.proofs.Tests.{not-false}
 use Rattle.faults.proofs.first_fault.Statement.{statement}
 use Rattle.faults.proofs.first_fault.Tie as tie
 

@@ -1,5 +1,6 @@
 use borrow.Author.Needs.{needs}
-use Rattle.faults.proofs.Tests.{mask-exact, mask-any}
+use Rattle.records.proofs.Masks.{mask-exact}
+use Rattle.faults.proofs.Tests.{mask-any}
 use Rattle.faults.proofs.mask_fits.Statement.{statement}
 use Rattle.faults.proofs.mask_fits.Tie as tie
 

@@ -1,4 +1,5 @@
-use Rattle.tables.proofs.Looking.{row-room, sums-of, statement-row, body-row}
+use Rattle.tables.proofs.Arms.{row-sums}
+use Rattle.tables.proofs.Looking.{row-room, statement-row, body-row}
 use Rattle.nodefacts.proofs.Refs.{node-is, node-within, seq-within}
 use Rattle.flowfacts.proofs.Refs.{seq-above, nop-returns, node-returns, if-returning, seq-returning}
 use native.Mathlib.Omega.{arith}
@@ -53,7 +54,7 @@ returns c = nop-returns (c .before .before .before .before .before .pre .0) (c .
 -- src/lib.rt:122:1
 returns-2 : tie.Need-returns-2
 returns-2 c = let e = c .before .before .r .given .1 in
-    sym (sums-of _ _ (c .row-at .ensures) (statement-row (c .before .before .before .before .before .before .before .pre .0) (c .before .before .before .before .before .before .before .pre .1) _ (node-within (c .before .before .before .before .before .before .before .pre .0) e (c .before .before .before .before .before .before .before .pre .2)) (node-is (c .before .before .before .before .before .before .before .pre .0) e ∙ (c .before .before .before .before .before .before .before .pre .2))) .returning) ∙ node-returns (c .before .before .before .before .before .before .before .pre .0) e
+    sym (row-sums _ _ (c .row-at .ensures) (statement-row (c .before .before .before .before .before .before .before .pre .0) (c .before .before .before .before .before .before .before .pre .1) _ (node-within (c .before .before .before .before .before .before .before .pre .0) e (c .before .before .before .before .before .before .before .pre .2)) (node-is (c .before .before .before .before .before .before .before .pre .0) e ∙ (c .before .before .before .before .before .before .before .pre .2))) .returning) ∙ node-returns (c .before .before .before .before .before .before .before .pre .0) e
 
 -- src/lib.rt:122:1
 returns-3 : tie.Need-returns-3
@@ -63,7 +64,7 @@ returns-3 c = if-returning (c .before .before .before .before .before .pre .0) (
 returns-4 : tie.Need-returns-4
 returns-4 c = let e = c .before .before .r2 .given .1 in
     let k = seq-within (c .before .before .before .before .before .before .before .pre .0) e (c .before .before .before .before .before .before .before .pre .2) in
-    sym (sums-of _ _ (c .row-at2 .ensures) (body-row (c .before .before .before .before .before .before .before .pre .0) (c .before .before .before .before .before .before .before .pre .1) (k .0) (k .1)) .returning) ∙ seq-returning (c .before .before .before .before .before .before .before .pre .0) e (c .before .before .before .before .before .before .before .pre .2)
+    sym (row-sums _ _ (c .row-at2 .ensures) (body-row (c .before .before .before .before .before .before .before .pre .0) (c .before .before .before .before .before .before .before .pre .1) (k .0) (k .1)) .returning) ∙ seq-returning (c .before .before .before .before .before .before .before .pre .0) e (c .before .before .before .before .before .before .before .pre .2)
 
 pub returning-spec : {M : Type 1} → statement M
 returning-spec =

@@ -1,5 +1,5 @@
+use Rattle.tables.proofs.Arms.{row-sums}
 use Rattle.flowfacts.proofs.Passing.{goes-by}
-use Rattle.tables.proofs.Looking.{sums-of}
 use mathlib.Core.Path.{refl, _∙_}
 use borrow.Author.Needs.{needs}
 use Rattle.flowfacts.proofs.row_through.Statement.{statement}
@@ -29,7 +29,7 @@ union-requires c κs = search needs
 
 -- src/lib.rt:33:1
 returns : tie.Need-returns
-returns c = λ s h. goes-by _ _ (sums-of _ _ (c .before .before .before .before .before .before .before .row-at .ensures) h) (c .before .before .before .is-within .ensures) refl (c .union .ensures ∙ rw (c .before .minus .ensures))
+returns c = λ s h. goes-by _ _ (row-sums _ _ (c .before .before .before .before .before .before .before .row-at .ensures) h) (c .before .before .before .is-within .ensures) refl (c .union .ensures ∙ rw (c .before .minus .ensures))
 
 pub row-through-spec : {M : Type 1} → statement M
 row-through-spec =

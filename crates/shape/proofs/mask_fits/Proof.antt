@@ -1,5 +1,5 @@
 use borrow.Author.Needs.{needs}
-use Rattle.shape.proofs.Fields.{mask-exact}
+use Rattle.records.proofs.Masks.{mask-exact}
 use Rattle.shape.proofs.mask_fits.Statement.{statement}
 use Rattle.shape.proofs.mask_fits.Tie as tie
 
