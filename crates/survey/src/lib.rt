@@ -16,7 +16,7 @@ ghost use Rattle.records.specs.Fields.{functions, varsOf, kindAt};
 ghost use Rattle.records.specs.Parts.{Laid};
 ghost use Rattle.language.specs.Nodes.{nodeOk};
 ghost use Rattle.scopes.specs.Counts.{Noted};
-ghost use Rattle.survey.specs.Limits.{limitsOf};
+ghost use Rattle.survey.specs.Limits.{aLimits, bLimits};
 ghost use Rattle.survey.specs.Surveyed.{Surveyed};
 
 // Whether a search found nothing.
@@ -29,24 +29,37 @@ fn is_nothing(found: Found) -> bool
     }
 }
 
-// The number that field b is below in a node of function f, by the kind of the node; 0 for calls and decls.
-fn limits_of(file: &[u8], f: usize) -> [u64; 16]
+// The number that field a of a node is below, by the kind of the node; 0 for calls and decls.
+fn a_limits() -> [u8; 16]
+    ensures { λ r. ⌜ r ≡ aLimits ⌝ }
+{
+    [1, 1, 1, 16, 1, 0, 1, 1, 1, 0, 1, 1, 1, 1, 1, 1]
+}
+
+// The same of field b, in a node of function f.
+fn b_limits(file: &[u8], f: usize) -> [u64; 16]
     requires { ⌜ 12 * (1 + f) + 12 ≤ length (now file) ⌝ }
-    ensures { λ r. ⌜ r ≡ limitsOf (varsOf (now (file .entry)) f) ⌝ }
+    ensures { λ r. ⌜ r ≡ bLimits (varsOf (now (file .entry)) f) ⌝ }
 {
     let v = wide(vars_of(file, f)) as u64;
     [4294967296, 2, v, 1, 1, 0, 1, 1, v, 0, 1, 1, 1, 1, 1, 1]
 }
 
 // Whether the limits alone show that question 7 passes at node i of function f's part, which is then no decl.
-fn within_limits(file: &[u8], f: usize, part: &[u8], i: usize, limits: &[u64; 16]) -> bool
+fn within_limits(
+    file: &[u8],
+    f: usize,
+    part: &[u8],
+    i: usize,
+    tops: &[u8; 16],
+    limits: &[u64; 16],
+) -> bool
     requires inside { ⌜ 12 * i + 12 ≤ length (now part) ⌝ }
-    requires limits { ⌜ now limits ≡ limitsOf (varsOf (now file) f) ⌝ }
+    requires limits { ⌜ (now tops ≡ aLimits) × (now limits ≡ bLimits (varsOf (now file) f)) ⌝ }
     ensures { λ r. ⌜ (r ≡ true → (nodeOk (now (file .entry)) f (now (part .entry)) i ≡ true) × (kindAt (now (part .entry)) i ≡ 9 → ⊥)) ⌝ }
 {
     let kind = wide(kind_at(part, i)) as usize;
     if kind < 16 {
-        let tops = [1u8, 1, 1, 16, 1, 0, 1, 1, 1, 0, 1, 1, 1, 1, 1, 1];
         let b = b_at(part, i) as u64;
         (mark_at(part, i) == 17486) & (a_at(part, i) < tops[kind]) & (b < limits[kind])
     } else {
@@ -65,10 +78,11 @@ pub fn survey_part(file: &[u8], f: usize, part: &[u8], n: usize, table: &mut [us
         seen: VarSet::empty(),
         twice: VarSet::empty(),
     };
-    let limits = limits_of(file, f);
+    let tops = a_limits();
+    let limits = b_limits(file, f);
     let mut i = 0;
     while i < n {
-        if !within_limits(file, f, part, i, &limits) {
+        if !within_limits(file, f, part, i, &tops, &limits) {
             if !shape::node_ok(file, f, part, i) {
                 return false;
             }

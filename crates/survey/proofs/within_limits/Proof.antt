@@ -1,6 +1,5 @@
 use mathlib.Core.Bool.{false≢true}
 use mathlib.Core.Path.{_∙_}
-use Rattle.survey.specs.Limits.{topsOf}
 use Rattle.survey.proofs.Limits.{within}
 use borrow.Author.Needs.{needs}
 use Rattle.survey.proofs.within_limits.Statement.{statement}
@@ -27,18 +26,17 @@ mark-at-requires c κs = search needs
 a-at-requires : tie.Need-a-at-requires
 a-at-requires c κs = search needs
 
-array-read-result : tie.Need-array-read-result
-array-read-result c = search needs
+element-copy-out-result : tie.Need-element-copy-out-result
+element-copy-out-result c = search needs
 
 mul-result : tie.Need-mul-result
 mul-result c = search needs
 
-element-copy-out-result : tie.Need-element-copy-out-result
-element-copy-out-result c = search needs
+element-copy-out-result-2 : tie.Need-element-copy-out-result-2
+element-copy-out-result-2 c = search needs
 
 returns : tie.Need-returns
-unfolding topsOf
-returns c = within _ _ _ _ (c .before .before .before .before .before .before .before .before .before .pre .1) (c .before .before .mark-at .ensures) (c .before .a-at .ensures) (c .before .before .before .b-at .ensures) (c .before .before .before .before .before .wide .ensures .0 ∙ c .before .before .before .before .before .before .kind-at .ensures) (c .before .before .before .before .if1 .taken)
+returns c = within _ _ _ _ (c .before .before .before .before .before .before .before .before .before .before .pre .1 .0) (c .before .before .before .before .before .before .before .before .before .before .pre .1 .1) (c .before .before .before .mark-at .ensures) (c .before .before .a-at .ensures) (c .before .before .before .before .b-at .ensures) (c .before .before .before .before .before .before .wide .ensures .0 ∙ c .before .before .before .before .before .before .before .kind-at .ensures) (c .before .before .before .before .before .if1 .taken)
 
 returns-2 : tie.Need-returns-2
 returns-2 c = λ z. absurd (false≢true z)
@@ -54,8 +52,8 @@ within-limits-spec =
     cast-b
     mark-at-requires
     a-at-requires
-    array-read-result
-    mul-result
     element-copy-out-result
+    mul-result
+    element-copy-out-result-2
     returns
     returns-2)

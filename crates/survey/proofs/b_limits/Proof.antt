@@ -1,7 +1,7 @@
-use Rattle.survey.specs.Limits.{limitsOf}
+use Rattle.survey.specs.Limits.{bLimits}
 use borrow.Author.Needs.{needs}
-use Rattle.survey.proofs.limits_of.Statement.{statement}
-use Rattle.survey.proofs.limits_of.Tie as tie
+use Rattle.survey.proofs.b_limits.Statement.{statement}
+use Rattle.survey.proofs.b_limits.Tie as tie
 
 vars-of-requires : tie.Need-vars-of-requires
 vars-of-requires c κs = search needs
@@ -13,8 +13,8 @@ cast-v : tie.Need-cast-v
 cast-v c = search needs
 
 returns : tie.Need-returns
-unfolding limitsOf
+unfolding bLimits
 returns c = rw (c .wide .ensures .0, c .before .vars-of .ensures)
 
-pub limits-of-spec : {M : Type 1} → statement M
-limits-of-spec = tie.close (tie.spec vars-of-requires wide-requires cast-v returns)
+pub b-limits-spec : {M : Type 1} → statement M
+b-limits-spec = tie.close (tie.spec vars-of-requires wide-requires cast-v returns)
