@@ -1,5 +1,5 @@
 -- The check's answer in the paper's numbers.
-use Prim.Native.Nat.{ℕ, _<_}
+use Prim.Native.Nat.{_<_}
 use Rattle.language.specs.Check.{Verdict, accepted, refused}
 use Rattle.acceptance.specs.declared.Answer.{Answer}
 use Rattle.acceptance.specs.declared.Answer.the-variants.{Accepted, Refused}

@@ -1,6 +1,6 @@
 -- The questions from 4 on, and the facts that the questions from 10 on lean on.
 use mathlib.Core.Bool.{not}
-use mathlib.Core.List.{List, [], _∷_}
+use mathlib.Core.List.{List, _∷_}
 use Prim.Native.Nat.{ℕ, _≤_, _<_}
 use Rattle.records.specs.Fields.{functions, countOf}
 use Rattle.records.specs.Parts.{partOf}

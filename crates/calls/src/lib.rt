@@ -1,7 +1,6 @@
 // The entry points on lent memory.
 use acceptance::Answer;
 ghost use mathlib.Core.Path.{_≡_};
-ghost use Prim.Native.Nat.{ℕ};
 ghost use Rattle.acceptance.specs.Answers.{says, Small};
 ghost use Rattle.image.specs.Image.{image};
 ghost use Rattle.image.specs.Memory.{size};

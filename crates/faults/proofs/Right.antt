@@ -2,18 +2,14 @@
 use mathlib.Core.Path.{_≡_, refl}
 use mathlib.Core.Bool.{Bool, true, false, _&&_}
 use mathlib.Core.List.{List}
-use Prim.Native.Nat.{ℕ, _+_, _*_, _/_, _^_, _<_}
+use Prim.Native.Nat.{ℕ, _+_, _/_, _<_}
 use native.Mathlib.Omega.{arith}
-use lib.Dec.{eqb, leb, ltb}
 use lib.ListN.{length}
 use borrow.Author.Tests.{lt-leb}
-use Rattle.varset.specs.Lowest.{pick}
-use Rattle.records.specs.Bytes.{u16At}
-use Rattle.records.specs.Fields.{markAt, resultOf, paramsOf, varsOf, maskOf, countOf}
-use Rattle.language.specs.Records.{within, functionOk}
+use Rattle.language.specs.Records.{functionOk}
 use Rattle.faults.specs.Records.{firstFault, functionFault}
 use Rattle.faults.specs.declared.FunctionFault.{FunctionFault}
-use Rattle.faults.specs.declared.FunctionFault.the-variants.{Missing, Right}
+use Rattle.faults.specs.declared.FunctionFault.the-variants.{Right}
 
 differ : {A : Type 0} (x : FunctionFault) → x ≡ Right → (x ≡ Right → _≡_ {A = ℕ} 0 1) → A
 differ x e f = let z : _≡_ {A = ℕ} 0 1 = f e in absurd (omega arith)

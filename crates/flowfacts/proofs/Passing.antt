@@ -1,6 +1,6 @@
 -- How values flow through a statement, by its summary.
 use mathlib.Core.Path.{_≡_, refl, sym, ap, _∙_}
-use mathlib.Core.Bool.{Bool, true, false, not, _&&_, and-false}
+use mathlib.Core.Bool.{Bool, true, false, not, _&&_}
 use mathlib.Core.List.{List}
 use mathlib.Core.Logic.{_↔_}
 use Prim.Native.Nat.{ℕ}
@@ -10,7 +10,7 @@ use Rattle.records.specs.declared.Found.{Found}
 use Rattle.records.specs.declared.Found.the-variants.{At, Nothing}
 use Rattle.records.proofs.Bools.{and-left, and-right, and-both, by, clash}
 use Rattle.language.specs.Statements.{Read, Statement}
-use Rattle.language.specs.Flow.{leaves, missing, lacks}
+use Rattle.language.specs.Flow.{missing, lacks}
 use Rattle.semantics.specs.Test.{clear}
 use Rattle.summaries.specs.Summary.{Needs, Summary}
 use Rattle.flowfacts.specs.declared.Passage.{Passage}

@@ -1,9 +1,8 @@
 -- The state that words stand for, whatever they are.
-use mathlib.Core.Bool.{Bool, true, false}
-use mathlib.Core.List.{List, [], _∷_, _++_}
-use Prim.Native.Nat.{ℕ, zero, suc, _+_, _*_, _-_, _/_, _%_}
+use mathlib.Core.List.{List, [], _∷_}
+use Prim.Native.Nat.{ℕ, zero, suc, _*_, _/_, _%_}
 use lib.Dec.{eqb}
-use lib.ListN.{getD, take, drop, length}
+use lib.ListN.{getD, take, drop}
 use Rattle.varset.specs.Lowest.{pick}
 use Rattle.semantics.specs.Values.{Value, nothing, int, truth}
 use Rattle.semantics.specs.Program.{Head, op, fn, Ref, node, ifOf, seqOf}

@@ -1,11 +1,9 @@
 -- The image of a state, and the state of an image.
-use mathlib.Core.Bool.{Bool, true, false}
 use mathlib.Core.List.{List, [], _∷_, _++_}
 use Prim.Native.Nat.{ℕ, suc, _+_}
 use lib.ListN.{length, replicate}
 use Rattle.words.specs.Stacks.{region}
-use Rattle.semantics.specs.Values.{Value}
-use Rattle.semantics.specs.Machine.{Exception, arith, abort, Frame, Control, Saved, saved, State, exception, main, returned, running}
+use Rattle.semantics.specs.Machine.{arith, abort, Frame, Saved, saved, State, exception, main, returned, running}
 use Rattle.image.specs.Layout.{filled, frameWords, controlWords, Activation, activation, activationWords}
 
 -- the activations, the current one first

@@ -1,7 +1,7 @@
 -- The words of values, references, frames and activations.
 use mathlib.Core.Bool.{Bool, true, false}
 use mathlib.Core.List.{List, [], _∷_, _++_}
-use Prim.Native.Nat.{ℕ, suc, _+_, _*_}
+use Prim.Native.Nat.{ℕ, _+_, _*_}
 use lib.ListN.{take, replicate, length}
 use Rattle.semantics.specs.Values.{Value, nothing, int, truth}
 use Rattle.semantics.specs.Program.{Head, op, fn, Ref, node, ifOf, seqOf}

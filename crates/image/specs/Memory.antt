@@ -7,7 +7,6 @@ use lib.ListN.{take}
 use Rattle.words.specs.Blocks.{eqWords}
 use Rattle.semantics.specs.Program.{Program}
 use Rattle.semantics.specs.Machine.{State}
-use Rattle.semantics.specs.Fit.{Fit}
 use Rattle.semantics.specs.Test.{fit}
 use Rattle.image.specs.Image.{image}
 use Rattle.image.specs.Decode.{stateOf}

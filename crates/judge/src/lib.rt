@@ -14,13 +14,13 @@ use records::wide;
 use varset::VarSet;
 ghost use mathlib.Core.Path.{_≡_};
 ghost use mathlib.Core.Bool.{true};
-ghost use Prim.Native.Nat.{ℕ, _+_, _*_, _-_, _≤_, _<_};
-ghost use lib.ListN.{length, getD, set};
-ghost use Rattle.varset.specs.Sets.{Set, has};
+ghost use Prim.Native.Nat.{_+_, _*_, _-_, _≤_, _<_};
+ghost use lib.ListN.{length, set};
+ghost use Rattle.varset.specs.Sets.{has};
 ghost use Rattle.records.specs.Fields.{functions, kindAt};
 ghost use Rattle.records.specs.Parts.{Laid};
 ghost use Rattle.judge.specs.Passed.{Passed, Clear};
-ghost use Rattle.judge.specs.Judged.{Judged, Filled, Part, Ready};
+ghost use Rattle.judge.specs.Judged.{Judged, Part, Ready};
 
 // A call.
 fn call_at(

@@ -11,8 +11,7 @@ ghost use mathlib.Core.List.{List};
 ghost use Prim.Native.Nat.{ℕ, _+_, _*_, _-_, _≤_, _<_};
 ghost use lib.ListN.{length, getD};
 ghost use Rattle.varset.specs.Sets.{Set, has};
-ghost use Rattle.records.specs.Fields.{kindAt, bAt, sizeAt};
-ghost use Rattle.language.specs.Statements.{Statement};
+ghost use Rattle.records.specs.Fields.{kindAt, sizeAt};
 ghost use Rattle.judge.specs.Judged.{Judged, Filled, Ready, Leaf, Operator, Single};
 
 // The effect of node k, as the working arrays have it.

@@ -1,7 +1,6 @@
 -- Question 13: which variables have a value. Question 14: what returns.
 use mathlib.Core.Bool.{Bool, true, false, _||_, _&&_}
 use mathlib.Core.List.{List, [], _∷_}
-use Prim.Native.Nat.{ℕ}
 use Rattle.varset.specs.Lowest.{pick}
 use Rattle.varset.specs.Sets.{Set, none, with, without, both, either, less}
 use Rattle.records.specs.declared.Found.{Found}

@@ -1,12 +1,11 @@
 -- Question 12: the type of each node, and the type that a node wants of each child.
-use mathlib.Core.Bool.{Bool, true, false, _||_, _&&_}
+use mathlib.Core.Bool.{Bool, true, _||_, _&&_}
 use mathlib.Core.List.{List, [], _∷_}
 use Prim.Native.Nat.{ℕ, _+_, _/_, _%_, _^_}
 use lib.Dec.{eqb, ltb}
 use lib.ListN.{getD, length}
 use Rattle.varset.specs.Lowest.{pick}
-use Rattle.records.specs.Fields.{resultOf, paramsOf, maskOf, countOf, kindAt, aAt, bAt}
-use Rattle.records.specs.Parts.{partOf}
+use Rattle.records.specs.Fields.{resultOf, paramsOf, maskOf, kindAt, aAt, bAt}
 use Rattle.language.specs.Scopes.{declOf}
 
 -- the types are 0 nothing, 1 int, 2 bool; a statement's type stays unset

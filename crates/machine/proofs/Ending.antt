@@ -1,10 +1,10 @@
 -- How runs end.
-use mathlib.Core.Path.{_≡_, refl, sym, ap, _∙_}
+use mathlib.Core.Path.{_≡_, refl, ap, _∙_}
 use mathlib.Core.Bool.{true, false}
 use mathlib.Core.List.{List, [], _∷_, _++_}
 use Prim.Native.Nat.{ℕ, zero, suc, _+_, _-_, _≤_, _<_}
 use native.Mathlib.Omega.{arith}
-use lib.ListN.{length, replicate}
+use lib.ListN.{replicate}
 use Rattle.words.specs.Blocks.{puts}
 use Rattle.arith.specs.Int.{int}
 use Rattle.semantics.specs.Values.{Value}
@@ -13,11 +13,10 @@ use Rattle.semantics.specs.Machine as machine
 use Rattle.semantics.specs.Machine.{Frame, Control, Saved, calm, State, running, Rule}
 use Rattle.semantics.specs.Next.{Move, goes, next}
 use Rattle.semantics.specs.Run as run
-use Rattle.semantics.specs.Run.{within, Ran, onward, runOf}
+use Rattle.semantics.specs.Run.{within, onward, runOf}
 use Rattle.image.specs.Layout.{filled}
 use Rattle.image.specs.Image.{headWords, activationsOf, framesOf, image}
 use Rattle.image.proofs.Heads.{rooms-head, image-rooms, empty-rooms}
-use Rattle.image.proofs.Rooms.{rooms}
 use Rattle.transitions.specs.Comes.{Cleared}
 use Rattle.machine.specs.declared.Outcome.{Outcome}
 use Rattle.machine.specs.declared.Outcome.the-variants as code

@@ -1,7 +1,7 @@
 -- A run taken up from the image of a running state.
-use mathlib.Core.Path.{_≡_, refl, sym, ap, _∙_}
-use mathlib.Core.List.{List, [], _∷_, _++_}
-use Prim.Native.Nat.{ℕ, suc, _+_, _*_, _-_, _≤_, _<_}
+use mathlib.Core.Path.{_≡_, sym, ap, _∙_}
+use mathlib.Core.List.{List, _++_}
+use Prim.Native.Nat.{ℕ, suc, _+_, _*_, _-_, _<_}
 use native.Mathlib.Nat.{sub-zero}
 use native.Mathlib.Omega.{arith}
 use lib.ListN.{length, getD, length-append}
@@ -10,17 +10,17 @@ use Rattle.records.specs.Parts.{startOf}
 use Rattle.words.specs.Segments.{total}
 use Rattle.language.specs.Check.{accepted, checkOf}
 use Rattle.semantics.specs.Values.{Value}
-use Rattle.semantics.specs.Machine.{Frame, Control, Saved, calm, State, running}
+use Rattle.semantics.specs.Machine.{Frame, Control, Saved, calm, running}
 use Rattle.semantics.specs.Run.{runOf}
 use Rattle.semantics.specs.Fit.{Fit}
 use Rattle.semantics.specs.File.{programOf}
-use Rattle.image.specs.Layout.{filled, controlWords, activation, activationWords}
+use Rattle.image.specs.Layout.{filled, activation, activationWords}
 use Rattle.image.specs.Image.{savedActivations, savedFrames, headWords, activationsOf, framesOf, image}
 use Rattle.image.specs.Decode.{controlOf, framesHeld, heldIn, activationsIn}
 use Rattle.image.specs.Core.{core}
 use Rattle.image.proofs.Parts.{control-back}
 use Rattle.image.proofs.Blocks.{length-filled}
-use Rattle.image.proofs.Images.{length-saved, length-frames, frames-held, activations-in}
+use Rattle.image.proofs.Images.{length-saved, frames-held, activations-in}
 use Rattle.image.proofs.Rooms.{activation-word}
 use Rattle.image.proofs.Heads.{image-rooms, running-word, frame-count}
 use Rattle.image.proofs.Sized.{file-sized, fit-narrow}

@@ -1,7 +1,7 @@
 -- A run begun with main().
 use mathlib.Core.Path.{_≡_, refl, sym, ap, _∙_}
-use mathlib.Core.List.{List, [], _∷_, _++_}
-use Prim.Native.Nat.{ℕ, _+_, _*_, _-_, _≤_, _<_}
+use mathlib.Core.List.{List, [], _++_}
+use Prim.Native.Nat.{ℕ, _+_, _*_, _-_, _<_}
 use native.Mathlib.Nat.{sub-zero}
 use native.Mathlib.Omega.{arith}
 use lib.ListN.{length, getD, set, replicate, length-set}
@@ -10,14 +10,13 @@ use Rattle.records.specs.Parts.{startOf, partOf, Laid}
 use Rattle.language.specs.Check.{accepted, checkOf}
 use Rattle.language.specs.Types as types
 use Rattle.language.proofs.Accept.{accepted-is, header, parts}
-use Rattle.semantics.specs.Values.{Value, nothing}
+use Rattle.semantics.specs.Values.{nothing}
 use Rattle.semantics.specs.Program.{Program}
 use Rattle.semantics.specs.Machine as machine
-use Rattle.semantics.specs.Machine.{Frame, Saved, calm, State, main, exec, running, entered, call-main}
+use Rattle.semantics.specs.Machine.{calm, State, main, exec, running, entered, call-main}
 use Rattle.semantics.specs.Run.{runOf}
 use Rattle.semantics.specs.Fit.{Fit}
 use Rattle.semantics.specs.File.{funOf, programOf}
-use Rattle.semantics.proofs.Accepted.{Accepted}
 use Rattle.semantics.proofs.Operands.{types-length}
 use Rattle.semantics.proofs.Progress.{start-fit}
 use Rattle.semantics.proofs.Files.{accepted-program}

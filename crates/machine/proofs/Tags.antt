@@ -1,12 +1,11 @@
 -- The state in a memory, by the tag.
-use mathlib.Core.Path.{_≡_, refl, sym, ap, _∙_}
-use mathlib.Core.List.{List, [], _∷_, _++_}
-use Prim.Native.Nat.{ℕ, _≤_, _<_}
+use mathlib.Core.Path.{_≡_, sym}
+use mathlib.Core.List.{List, _++_}
+use Prim.Native.Nat.{ℕ}
 use native.Mathlib.Omega.{arith}
-use lib.ListN.{length, getD}
+use lib.ListN.{getD}
 use Rattle.arith.specs.Int.{int}
 use Rattle.semantics.specs.Values.{Value}
-use Rattle.semantics.specs.Program.{Program}
 use Rattle.semantics.specs.Machine.{Exception, abort, Frame, Control, Saved, calm, State, exception, main, returned, running}
 use Rattle.semantics.specs.Run.{runOf}
 use Rattle.semantics.specs.Fit.{Fit}

@@ -1,12 +1,11 @@
 -- What a walk over the parts shows of the function that has a record.
-use mathlib.Core.Path.{_≡_, refl, sym}
-use mathlib.Core.Bool.{Bool, true, false}
+use mathlib.Core.Path.{_≡_}
+use mathlib.Core.Bool.{Bool, false}
 use mathlib.Core.List.{List}
 use Prim.Native.Nat.{ℕ, _+_, _-_, _≤_, _<_}
 use native.Mathlib.Omega.{arith}
 use lib.Dec.{ltb}
 use borrow.Author.Tests.{lt-ltb, le-ltb}
-use Rattle.varset.specs.Lowest.{pick, lowest}
 use Rattle.records.specs.Fields.{functions, countOf, kindAt}
 use Rattle.records.specs.Parts.{startOf}
 use Rattle.records.proofs.Loops.{Below, lowest-at, lowest-none}

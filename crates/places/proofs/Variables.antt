@@ -8,7 +8,7 @@ use lib.Dec.{eqb}
 use borrow.Author.Tests.{eqb-true}
 use Rattle.varset.specs.Lowest.{pick}
 use Rattle.varset.specs.Sets.{Set, without}
-use Rattle.records.specs.Fields.{countOf, kindAt, bAt}
+use Rattle.records.specs.Fields.{kindAt, bAt}
 use Rattle.records.specs.Parts.{partOf}
 use Rattle.language.specs.Statements.{Shape, nop, seq, assign, decl, if, while, return, assert, expr, stray, read, readsFrom, readsOf, grow, shapeAt, statementIn, statementAt}
 use Rattle.language.specs.Flow.{leaves}

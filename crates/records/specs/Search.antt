@@ -1,5 +1,5 @@
 -- The lowest record that fails a test.
-use mathlib.Core.Bool.{Bool, true, false}
+use mathlib.Core.Bool.{Bool}
 use Prim.Native.Nat.{ℕ, zero, suc, _+_}
 use lib.Dec.{ltb}
 use Rattle.varset.specs.Lowest.{pick, lowest}

@@ -4,7 +4,7 @@ ghost use mathlib.Core.Path.{_≡_};
 ghost use mathlib.Core.Bool.{true, false};
 ghost use mathlib.Core.List.{List};
 ghost use mathlib.Core.Logic.{_↔_};
-ghost use Prim.Native.Nat.{ℕ, _<_};
+ghost use Prim.Native.Nat.{_<_};
 ghost use Rattle.varset.specs.Sets.{has, none};
 ghost use Rattle.language.specs.Statements.{Read, Statement, Seq, Decl, If, While};
 ghost use Rattle.summaries.specs.Summary.{Needs};

@@ -1,13 +1,11 @@
 -- An accepted run, and a refused one.
-use mathlib.Core.Path.{_≡_, refl, sym, ap, _∙_}
-use mathlib.Core.Bool.{true}
-use mathlib.Core.List.{List, [], _∷_, _++_}
+use mathlib.Core.Path.{_≡_, ap, _∙_}
+use mathlib.Core.List.{List, _++_}
 use Prim.Native.Nat.{ℕ, _+_, _≤_}
 use native.Mathlib.Omega.{arith}
 use lib.ListN.{length, drop}
-use Rattle.language.specs.Check.{accepted, refused, checkOf}
+use Rattle.language.specs.Check.{accepted, refused}
 use Rattle.semantics.specs.Machine.{State}
-use Rattle.semantics.specs.Run as run
 use Rattle.semantics.specs.Run.{runOf}
 use Rattle.semantics.specs.Fit.{Fit}
 use Rattle.semantics.specs.File.{programOf}
@@ -19,8 +17,7 @@ use Rattle.calls.specs.Answers.{memoryAnswer, answered, written, runFrom, runAn
 use Rattle.calls.proofs.Questions.{memory-so}
 use Rattle.machine.specs.declared.Ran.{Ran}
 use Rattle.machine.specs.declared.Outcome.{Outcome}
-use Rattle.machine.specs.Runs.{outcomeOf, Held, Ends}
-use Rattle.runs.specs.declared.Reply.{Reply}
+use Rattle.machine.specs.Runs.{Held, Ends}
 use Rattle.runs.specs.declared.Reply.the-variants.{Ended, Refused}
 use Rattle.runs.specs.Replies.{replyOf}
 

@@ -1,5 +1,5 @@
 -- The code's answer of a run.
-use Prim.Native.Nat.{ℕ, _<_}
+use Prim.Native.Nat.{_<_}
 use Rattle.semantics.specs.Run as run
 use Rattle.calls.specs.Answers.{Told, told, turned}
 use Rattle.machine.specs.Runs.{outcomeOf}

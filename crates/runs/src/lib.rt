@@ -2,7 +2,6 @@
 use acceptance::Answer;
 use machine::Ran;
 ghost use mathlib.Core.Path.{_≡_};
-ghost use Prim.Native.Nat.{_<_};
 ghost use Rattle.calls.specs.Answers.{runAnswer, runMemory};
 ghost use Rattle.runs.specs.Replies.{replyOf, SmallReply};
 

@@ -9,7 +9,7 @@ use records::wide;
 use varset::VarSet;
 ghost use mathlib.Core.Path.{_≡_};
 ghost use mathlib.Core.Bool.{true};
-ghost use Prim.Native.Nat.{ℕ, _+_, _*_, _≤_, _<_};
+ghost use Prim.Native.Nat.{_+_, _*_, _≤_, _<_};
 ghost use lib.ListN.{length};
 ghost use Rattle.varset.specs.Lowest.{lowest};
 ghost use Rattle.records.specs.Fields.{paramsOf, varsOf, kindAt, bAt};

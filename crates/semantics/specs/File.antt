@@ -1,5 +1,4 @@
 -- The program of a procedure file.
-use mathlib.Core.Bool.{Bool}
 use mathlib.Core.List.{List, [], _∷_}
 use Prim.Native.Nat.{ℕ, zero, suc, _-_}
 use lib.Dec.{eqb}
@@ -8,7 +7,7 @@ use Rattle.varset.specs.Lowest.{pick}
 use Rattle.records.specs.Fields.{functions, resultOf, paramsOf, varsOf, countOf, kindAt, aAt, bAt}
 use Rattle.records.specs.Parts.{partOf}
 use Rattle.records.specs.Children.{children}
-use Rattle.language.specs.Statements.{Shape, shapeAt, readsOf, statementAt, Read, Statement, Nop, Seq, Assign, Decl, If, While, Return, Assert, Expr}
+use Rattle.language.specs.Statements.{Shape, shapeAt, readsOf, statementAt, Statement, Nop, Seq, Assign, Decl, If, While, Return, Assert, Expr}
 use Rattle.language.specs.Types as types
 use Rattle.semantics.specs.Values.{nothing, int, truth, Ty}
 use Rattle.semantics.specs.Program.{op, fn, Ref, node, ifOf, seqOf, Look, const, apply, Form, Fun, Program}

@@ -3,15 +3,13 @@ use mathlib.Core.Path.{_≡_}
 use mathlib.Core.Logic.{_⊎_}
 use mathlib.Core.Bool.{Bool, true, false, _||_, _&&_, not}
 use mathlib.Core.List.{List, [], _∷_, _++_, map}
-use Prim.Native.Nat.{ℕ, zero, suc, _+_, _^_, _≤_, _<_}
-use lib.Dec.{ltb}
+use Prim.Native.Nat.{ℕ, _+_, _^_, _≤_, _<_}
 use lib.ListN.{getD, length}
 use Rattle.varset.specs.Sets.{Set, with, both}
-use Rattle.records.specs.declared.Found.{Found}
 use Rattle.records.specs.declared.Found.the-variants.{Nothing}
 use Rattle.language.specs.Flow.{leaves, missing, lacks, returns}
-use Rattle.semantics.specs.Values.{Ty, tNone, tInt, tBool, Value, nothing, int, truth, typeV}
-use Rattle.semantics.specs.Program.{Head, op, fn, Ref, node, ifOf, seqOf, Look, const, apply, Form, Fun, Program, owns, typeN, varTypes, varType, wants, gives}
+use Rattle.semantics.specs.Values.{Ty, tBool, Value, nothing, int, truth, typeV}
+use Rattle.semantics.specs.Program.{Head, op, fn, Ref, node, ifOf, seqOf, Look, const, apply, Form, Program, owns, typeN, varTypes, varType, wants, gives}
 use Rattle.semantics.specs.Machine.{Frame, gather, and, wait, branch, check, Control, val, eval, exec, Saved, saved, Ambient, State, exception, main, returned, running}
 
 -- the limits

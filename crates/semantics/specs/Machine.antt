@@ -1,12 +1,12 @@
 -- States, and the rules of 002 by name.
 use mathlib.Core.Path.{_≡_}
-use mathlib.Core.Bool.{Bool, true, false}
+use mathlib.Core.Bool.{true, false}
 use mathlib.Core.List.{List, [], _∷_, _++_}
-use mathlib.Core.Option.{Option, none, some}
+use mathlib.Core.Option.{none, some}
 use Prim.Native.Nat.{ℕ}
 use lib.ListN.{getD, set, length}
 use Rattle.semantics.specs.Values.{Value, nothing, int, truth, Ty, result}
-use Rattle.semantics.specs.Program.{Head, op, fn, Ref, node, ifOf, seqOf, Look, const, apply, Form, Fun, Program}
+use Rattle.semantics.specs.Program.{Head, op, fn, Ref, ifOf, Look, const, apply, Form, Fun, Program}
 
 -- the exceptions that end a run
 pub data Exception : Type 0 where

@@ -1,12 +1,12 @@
 -- The next state as a function, for the code.
-use mathlib.Core.Bool.{Bool, true, false}
+use mathlib.Core.Bool.{true, false}
 use mathlib.Core.List.{List, [], _∷_, _++_}
 use mathlib.Core.Option.{Option, none, some}
 use Prim.Native.Nat.{ℕ}
 use lib.ListN.{getD, set}
 use Rattle.semantics.specs.Values.{Value, nothing, int, truth, result}
-use Rattle.semantics.specs.Program.{Head, op, fn, Ref, ifOf, Look, const, apply, Form, Fun, Program}
-use Rattle.semantics.specs.Machine.{arith, abort, Frame, gather, and, wait, branch, check, Control, val, eval, exec, Saved, saved, Ambient, State, exception, main, returned, running, Rule, reach, firstName, nextName, entered}
+use Rattle.semantics.specs.Program.{Head, op, fn, Ref, ifOf, Look, const, apply, Form, Program}
+use Rattle.semantics.specs.Machine.{arith, abort, Frame, gather, and, wait, branch, check, val, eval, exec, Saved, saved, Ambient, State, exception, main, returned, running, Rule, reach, firstName, nextName, entered}
 
 -- no rule applies, or this one does
 pub data Move : Type 0 where

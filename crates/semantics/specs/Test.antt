@@ -2,13 +2,13 @@
 use mathlib.Core.Bool.{Bool, true, false, _&&_, not}
 use mathlib.Core.List.{List, [], _∷_, _++_, map}
 use Prim.Native.Nat.{ℕ, _+_, _^_}
-use lib.Dec.{eqb, leb, ltb}
+use lib.Dec.{eqb, ltb}
 use lib.ListN.{length}
 use Rattle.varset.specs.Sets.{Set, with, both}
 use Rattle.records.specs.declared.Found.{Found}
 use Rattle.records.specs.declared.Found.the-variants.{At, Nothing}
 use Rattle.language.specs.Flow.{leaves, missing, lacks}
-use Rattle.semantics.specs.Values.{Ty, tNone, tInt, tBool, Value, nothing, int, truth, typeV}
+use Rattle.semantics.specs.Values.{Ty, tInt, tBool, Value, nothing, int, truth, typeV}
 use Rattle.semantics.specs.Program.{Head, op, fn, Ref, Program, owns, typeN, varTypes, varType, wants, gives}
 use Rattle.semantics.specs.Machine.{Frame, gather, and, wait, branch, check, Control, val, eval, exec, Saved, saved, State, exception, main, returned, running}
 use Rattle.semantics.specs.Fit.{isExpr, isConst, isStmt, owned, held, comes, comesFrom}

@@ -1,24 +1,22 @@
 -- What a fit state has at hand for its step.
-use mathlib.Core.Path.{_≡_, refl, sym, ap, _∙_}
-use mathlib.Core.Bool.{true}
-use mathlib.Core.List.{List, [], _∷_, _++_}
-use Prim.Native.Nat.{ℕ, _+_, _*_, _≤_, _<_}
-use native.Mathlib.Omega.{arith}
+use mathlib.Core.Path.{_≡_, sym}
+use mathlib.Core.List.{List}
+use Prim.Native.Nat.{ℕ, _≤_, _<_}
 use lib.ListN.{length}
 use borrow.Author.Tests.{ltb-true}
-use Rattle.records.specs.Fields.{functions, paramsOf, kindAt, aAt, bAt}
+use Rattle.records.specs.Fields.{paramsOf, kindAt, aAt, bAt}
 use Rattle.records.specs.Parts.{partOf}
 use Rattle.language.specs.Check.{accepted, checkOf}
 use Rattle.language.proofs.Accept.{accepted-is}
 use Rattle.language.proofs.Facts.{call-fields}
 use Rattle.language.proofs.Typings.{fields-at}
 use Rattle.semantics.specs.Values.{Value}
-use Rattle.semantics.specs.Program.{Ref, node, Look, Form, varTypes}
+use Rattle.semantics.specs.Program.{Ref, node, Form, varTypes}
 use Rattle.semantics.specs.Machine.{Frame, Control, eval, exec, Saved, calm, running}
-use Rattle.semantics.specs.Fit.{Fit, Running, IsExpr, IsStmt, Var, Holds}
+use Rattle.semantics.specs.Fit.{Fit, Var}
 use Rattle.semantics.specs.File.{lookAt, formAt, seeAt, programOf}
 use Rattle.semantics.proofs.Holding.{holds-length}
-use Rattle.semantics.proofs.Accepted.{Accepted, GoodE, GoodS}
+use Rattle.semantics.proofs.Accepted.{GoodE, GoodS}
 use Rattle.semantics.proofs.Files.{accepted-program}
 use Rattle.image.proofs.Sized.{file-sized}
 use Rattle.stepping.proofs.Levels.{look-variable}

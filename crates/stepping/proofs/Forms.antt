@@ -1,5 +1,5 @@
 -- Statements executed, by their kind.
-use mathlib.Core.Path.{_≡_, refl, sym, ap, _∙_}
+use mathlib.Core.Path.{_≡_}
 use mathlib.Core.Logic.{_⊎_, inl, inr}
 use mathlib.Core.List.{List, [], _∷_}
 use Prim.Native.Nat.{ℕ, _-_, _≤_, _<_}
@@ -8,8 +8,8 @@ use native.Mathlib.Decide.{ℕ-discrete}
 use Rattle.records.specs.Fields.{kindAt, bAt, sizeAt}
 use Rattle.records.specs.Parts.{partOf}
 use Rattle.language.specs.Statements.{prior, last, shapes, shapeAt}
-use Rattle.semantics.specs.Program.{ifOf, Form}
-use Rattle.semantics.specs.Machine.{Frame, check, exec, Saved, calm, running, reachL}
+use Rattle.semantics.specs.Program.{Form}
+use Rattle.semantics.specs.Machine.{Frame, check, Saved, calm, running, reachL}
 use Rattle.semantics.specs.Values.{Value}
 use Rattle.semantics.specs.Next.{runs}
 use Rattle.semantics.specs.File.{refAt, lookAt, formOf, formAt, programOf}

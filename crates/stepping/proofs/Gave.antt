@@ -1,6 +1,6 @@
 -- A value given to the top frame, by the frame.
-use mathlib.Core.Path.{_≡_, refl, sym, ap, _∙_}
-use mathlib.Core.Bool.{true, false}
+use mathlib.Core.Path.{_≡_, refl}
+use mathlib.Core.Bool.{false}
 use mathlib.Core.List.{List, [], _∷_, _++_}
 use Prim.Native.Nat.{ℕ, suc, _+_, _≤_, _<_}
 use native.Mathlib.Omega.{arith}
@@ -20,7 +20,7 @@ use Rattle.transitions.specs.declared.Head as code
 use Rattle.transitions.specs.declared.Stepped.{Stepped}
 use Rattle.transitions.specs.Comes.{Tells, Comes}
 use Rattle.stepping.specs.Done.{Done}
-use Rattle.stepping.proofs.Gives.{ints, arguments, waits, conjunct, assigned}
+use Rattle.stepping.proofs.Gives.{ints, arguments, waits, assigned}
 use Rattle.stepping.proofs.Given.{shaped, empty}
 
 gives-operator : (s : List ℕ) (r : Stepped) (l m R : List ℕ) (f : ℕ) (η : List Value) (fr : Frame) (K : List Frame) (A : List Saved) (v : Value) (o a b : ℕ)

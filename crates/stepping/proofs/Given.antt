@@ -1,9 +1,9 @@
 -- A value at hand over the top frame: what its step may rely on.
-use mathlib.Core.Path.{_≡_, refl, sym, ap, _∙_}
+use mathlib.Core.Path.{_≡_, refl, ap, _∙_}
 use mathlib.Core.List.{List, [], _∷_, _++_}
-use Prim.Native.Nat.{ℕ, suc, _+_, _*_, _-_, _≤_, _<_}
+use Prim.Native.Nat.{ℕ, _+_, _*_, _-_, _≤_, _<_}
 use native.Mathlib.Omega.{arith}
-use lib.ListN.{length, getD, length-append}
+use lib.ListN.{length, getD}
 use Rattle.records.specs.Fields.{functions, countOf}
 use Rattle.records.specs.Parts.{partOf}
 use Rattle.records.proofs.Parts.{part-length}
@@ -11,7 +11,7 @@ use Rattle.language.specs.Check.{accepted, checkOf}
 use Rattle.semantics.specs.Values as values
 use Rattle.semantics.specs.Values.{int, tBool, typeV}
 use Rattle.semantics.specs.Program.{Head, op, fn}
-use Rattle.semantics.specs.Machine.{Frame, gather, and, branch, check, val, Saved, saved, calm, running}
+use Rattle.semantics.specs.Machine.{Frame, gather, and, val, Saved, saved, calm, running}
 use Rattle.semantics.specs.Fit as fit
 use Rattle.semantics.specs.File.{programOf}
 use Rattle.image.specs.Image.{savedFrames}
@@ -25,7 +25,7 @@ use Rattle.topframe.specs.Shows.{Gathers}
 use Rattle.transitions.specs.declared.Head as code
 use Rattle.transitions.specs.Comes.{Tells, Bounds, Called}
 use Rattle.starts.specs.Starts.{Starts}
-use Rattle.transitions.proofs.Steps.{counted, counted-under}
+use Rattle.transitions.proofs.Steps.{counted-under}
 use Rattle.stepping.specs.Done.{IsInt, IsTruth, Stands}
 use Rattle.stepping.proofs.Sorts.{is-int, is-truth}
 use Rattle.stepping.proofs.Gives.{ints, arguments, waits, conjunct, assigned, main-int, caller-known}

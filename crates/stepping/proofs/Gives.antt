@@ -1,7 +1,7 @@
 -- What a fit state has on its top where a value is at hand.
 use mathlib.Core.Path.{_≡_, refl, sym, ap, _∙_}
 use mathlib.Core.List.{List, [], _∷_, _++_, map}
-use Prim.Native.Nat.{ℕ, suc, _+_, _*_, _-_, _≤_, _<_}
+use Prim.Native.Nat.{ℕ, suc, _+_, _-_, _≤_, _<_}
 use native.Mathlib.Omega.{arith}
 use lib.ListN.{length, getD, length-append, length-map}
 use borrow.Author.Tests.{ltb-true}
@@ -11,11 +11,10 @@ use Rattle.language.specs.Check.{accepted, checkOf}
 use Rattle.language.specs.Types as types
 use Rattle.language.proofs.Accept.{accepted-is, function}
 use Rattle.semantics.specs.Values.{Value, nothing, int, truth, Ty, tInt, tBool, typeV}
-use Rattle.semantics.specs.Program.{Head, op, fn, typeN}
-use Rattle.semantics.specs.Machine.{Frame, gather, and, branch, check, val, Saved, saved, calm, running}
+use Rattle.semantics.specs.Program.{Head, op, fn}
+use Rattle.semantics.specs.Machine.{Frame, gather, and, val, Saved, saved, calm, running}
 use Rattle.semantics.specs.Fit.{Fit}
 use Rattle.semantics.specs.File.{funOf, programOf}
-use Rattle.semantics.proofs.Accepted.{Accepted}
 use Rattle.semantics.proofs.Files.{accepted-program}
 use Rattle.semantics.proofs.Operands.{types-length}
 use Rattle.image.specs.Image.{framesOf}

@@ -1,12 +1,12 @@
 -- What stands at a node of a known kind, and where its children stand.
-use mathlib.Core.Path.{_≡_, refl, sym, ap, _∙_}
+use mathlib.Core.Path.{_≡_, refl, _∙_}
 use mathlib.Core.List.{List, [], _∷_}
 use Prim.Native.Nat.{ℕ, zero, suc, _-_, _<_}
 use native.Mathlib.Omega.{arith}
 use Rattle.records.specs.Fields.{kindAt, aAt, bAt, sizeAt}
 use Rattle.records.specs.Children.{arities, arityOf, arityAt, walk, children}
-use Rattle.language.specs.Statements.{Shape, prior, last, shapes, shapeAt}
-use Rattle.semantics.specs.Program.{op, fn, Look, apply, Form}
+use Rattle.language.specs.Statements.{Shape, prior, last, shapeAt}
+use Rattle.semantics.specs.Program.{op, fn, Look, apply}
 use Rattle.semantics.specs.File.{backwards, kids, andOf, looks, lookAt, formOf, formAt}
 
 -- a list with a first entry

@@ -1,10 +1,10 @@
 -- The if that a while equals, and the seq in it.
-use mathlib.Core.Path.{_≡_, _∙_}
+use mathlib.Core.Path.{_≡_}
 use mathlib.Core.List.{List}
 use Prim.Native.Nat.{ℕ, _-_, _<_}
 use Rattle.records.specs.Fields.{kindAt, sizeAt}
 use Rattle.semantics.specs.Program.{Ref, node, ifOf, seqOf, Form}
-use Rattle.semantics.specs.File.{refAt, formAt, ifForm, seqForm, seeAt}
+use Rattle.semantics.specs.File.{refAt, ifForm, seqForm, seeAt}
 use Rattle.stepping.proofs.Forms.{form-while}
 
 module _ (t : List ℕ) (w : ℕ) (p : 0 < w) (k : kindAt t w ≡ 11) where

@@ -1,5 +1,5 @@
 -- Expressions evaluated, by their kind.
-use mathlib.Core.Path.{_≡_, refl, sym, ap, _∙_}
+use mathlib.Core.Path.{_≡_, _∙_}
 use mathlib.Core.List.{List, [], _∷_}
 use Prim.Native.Nat.{ℕ, _-_}
 use lib.ListN.{getD}
@@ -8,7 +8,7 @@ use Rattle.records.specs.Parts.{partOf}
 use Rattle.records.specs.Children.{arityAt, walk}
 use Rattle.language.specs.Statements.{prior, last}
 use Rattle.semantics.specs.Values.{Value, nothing}
-use Rattle.semantics.specs.Program.{Head, op, fn, Look, apply}
+use Rattle.semantics.specs.Program.{Head, apply}
 use Rattle.semantics.specs.Machine.{Frame, gather, and, val, exec, Saved, saved, calm, running, reachL, entered}
 use Rattle.semantics.specs.Next.{opens}
 use Rattle.semantics.specs.File.{backwards, kids, lookAt, funOf, programOf}

@@ -1,23 +1,21 @@
 -- Where a fit state stands in the file.
-use mathlib.Core.Path.{_≡_, sym, ap, _∙_}
-use mathlib.Core.Bool.{Bool, true, false, _&&_, not, false≢true, true≢false}
+use mathlib.Core.Path.{_≡_, ap, _∙_}
+use mathlib.Core.Bool.{Bool, true, false, not, false≢true, true≢false}
 use mathlib.Core.List.{List, [], _∷_, _++_}
 use Prim.Native.Nat.{ℕ, _+_, _*_, _-_, _≤_, _<_}
 use native.Mathlib.Omega.{arith}
-use lib.Dec.{ltb, eqb}
+use lib.Dec.{ltb}
 use lib.ListN.{length, take, drop}
 use borrow.Author.Tests.{ltb-true, not-true}
-use Rattle.records.specs.Fields.{functions, countOf, kindAt, aAt, bAt}
-use Rattle.records.specs.Parts.{startOf, partOf, Laid}
+use Rattle.records.specs.Fields.{functions, countOf, kindAt}
+use Rattle.records.specs.Parts.{partOf}
 use Rattle.records.proofs.Bools.{and-left, and-right}
-use Rattle.records.proofs.Parts.{part-length}
-use Rattle.language.specs.Check.{accepted, checkOf}
 use Rattle.language.specs.Known.{namesVariable, Known}
 use Rattle.language.specs.Scopes.{usesVariable}
 use Rattle.language.specs.Flow.{returns}
 use Rattle.language.proofs.Accept.{accepted-is, nodes-known, calls-known}
 use Rattle.semantics.specs.Values.{Value}
-use Rattle.semantics.specs.Program.{Ref, node, ifOf, seqOf, Look, Form}
+use Rattle.semantics.specs.Program.{Ref, node, ifOf, seqOf}
 use Rattle.semantics.specs.Machine.{Frame, Control, val, eval, exec, Saved, calm, running}
 use Rattle.semantics.specs.Fit.{Fit, isExpr, isConst, isStmt, isNop}
 use Rattle.semantics.specs.File.{lookAt, formAt, ifForm, seqForm, seeAt, stmtAt, programOf}
@@ -34,7 +32,7 @@ use Rattle.transitions.specs.declared.Head.{Head}
 use Rattle.transitions.specs.declared.Stepped.{Stepped}
 use Rattle.transitions.specs.Comes.{Tells, Bounds}
 use Rattle.starts.proofs.Tables.{part-cut}
-use Rattle.stepping.specs.Done.{Node, Inside, Executes, Stands, Done}
+use Rattle.stepping.specs.Done.{Node, Executes, Stands, Done}
 use Rattle.stepping.proofs.Given.{limited, part-inside}
 
 -- the kinds that are evaluated, and those that are executed

@@ -1,5 +1,4 @@
 -- What the code's values, references and controls stand for, and where words lie.
-use mathlib.Core.Bool.{Bool}
 use Prim.Native.Nat.{ℕ, _+_, _*_}
 use Rattle.semantics.specs.Values as values
 use Rattle.semantics.specs.Program as program

@@ -7,10 +7,9 @@ use Prim.Native.Nat.{ℕ}
 use lib.Dec.{eqb}
 use borrow.Author.Tests.{eqb-true, eq-eqb, not-true}
 use Rattle.varset.specs.Sets.{Set, has, none, with, without, both, either, less, Sub}
-use Rattle.records.specs.declared.Found.the-variants.{Nothing}
 use Rattle.records.proofs.Bools.{and-left, and-right, and-both, or-more, by, or-cases, clash, or-last}
 use Rattle.language.specs.Statements.{Read, Statement, Nop, Seq, Assign, Decl, If, While, Return, Assert, Expr}
-use Rattle.language.specs.Flow.{declares, leaves, missing, lacks, returns}
+use Rattle.language.specs.Flow.{declares, leaves, returns}
 use Rattle.language.proofs.Flows.{ok-nop, ok-seq, ok-assign, ok-decl, ok-if, ok-while, ok-return, ok-assert, ok-expr}
 use Rattle.summaries.specs.Summary.{Needs, Summary}
 use Rattle.summaries.proofs.Tables.{in-turn, in-branches, in-scope, as-found, adding, dropping}

@@ -1,12 +1,10 @@
 -- The row of a statement of each kind, from the rows of its children.
-use mathlib.Core.Path.{_≡_, refl, sym, ap, _∙_}
+use mathlib.Core.Path.{_≡_, refl, _∙_}
 use mathlib.Core.Bool.{Bool, true, false}
 use mathlib.Core.List.{List}
 use mathlib.Core.Logic.{_⊎_, inl, inr}
-use Prim.Native.Nat.{ℕ, _+_, _-_, _*_, _≤_, _<_}
+use Prim.Native.Nat.{ℕ, _+_, _-_, _≤_, _<_}
 use native.Mathlib.Omega.{arith}
-use lib.ListN.{length}
-use lib.Dec.{ltb, eqb}
 use Rattle.varset.specs.Sets.{has, none, with}
 use Rattle.varset.specs.declared.VarSet.{VarSet}
 use native.Mathlib.Decide.{decLt}
@@ -16,12 +14,12 @@ use Rattle.language.specs.Sorts.{isExpression, wantsExpression}
 use Rattle.language.specs.Statements.{Read, Statement, Seq, Decl, If, While, last, prior, readsOf, statementAt}
 use Rattle.language.proofs.Subtrees.{back, child-at, sort-at}
 use Rattle.language.proofs.Trees.{statement-seq, statement-assign, statement-decl, statement-if, statement-while, statement-return, statement-assert, statement-expr, statement-rest}
-use Rattle.summaries.specs.Summary.{Needs, Summary}
+use Rattle.summaries.specs.Summary.{Needs}
 use Rattle.summaries.proofs.Parts.{nop-summary, return-summary, assert-summary, expr-summary, assign-summary}
 use Rattle.rows.specs.declared.Row.{Row}
 use Rattle.rows.specs.Rows.{Sums}
 use Rattle.nodefacts.specs.Part.{Part}
-use Rattle.nodefacts.proofs.Parts.{all, inside}
+use Rattle.nodefacts.proofs.Parts.{all}
 use Rattle.tables.specs.Tables.{wordOf, failsIn, returnsIn, Rowed, Filled}
 use Rattle.tables.proofs.Filling.{sized}
 

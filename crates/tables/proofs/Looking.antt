@@ -1,24 +1,23 @@
 -- The rows that a table of a part has for a function's expressions and statements.
-use mathlib.Core.Path.{_≡_, refl, sym, ap, _∙_}
-use mathlib.Core.Bool.{Bool, true, false, _&&_, _||_}
+use mathlib.Core.Path.{_≡_, refl, _∙_}
+use mathlib.Core.Bool.{true, false, _&&_}
 use mathlib.Core.List.{List}
 use Prim.Native.Nat.{ℕ, _+_, _-_, _*_, _≤_, _<_}
 use native.Mathlib.Omega.{arith}
 use lib.ListN.{length}
-use lib.Dec.{eqb, leb, ltb}
+use lib.Dec.{leb, ltb}
 use borrow.Author.Tests.{leb-true, le-ltb, ne-eqb}
 use Rattle.records.specs.Fields.{kindAt, sizeAt}
 use Rattle.records.specs.Children.{arityOf, arities}
 use Rattle.records.proofs.Bools.{and-left, and-right}
 use Rattle.language.specs.Sorts.{isExpression, wantsExpression}
 use Rattle.language.specs.Statements.{last, prior, readsOf, statementAt}
-use Rattle.semantics.specs.Program.{node}
 use Rattle.semantics.specs.File.{programOf}
-use Rattle.semantics.specs.Test.{exprIn, stmtIn}
+use Rattle.semantics.specs.Test.{exprIn}
 use Rattle.summaries.specs.Summary.{Needs}
 use Rattle.nodefacts.specs.Part.{Part}
-use Rattle.nodefacts.proofs.Sorts.{own-expression, expression-inside, node-sort}
-use Rattle.tables.specs.Tables.{wordOf, Rowed, Filled, Tabled}
+use Rattle.nodefacts.proofs.Sorts.{own-expression, expression-inside}
+use Rattle.tables.specs.Tables.{wordOf, Rowed, Tabled}
 use Rattle.tables.proofs.Arms.{sorted, kid}
 
 -- kinds 7 to 14 are no expressions

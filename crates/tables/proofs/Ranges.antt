@@ -1,6 +1,6 @@
 -- The reads of the nodes of a range, and of an expression's subtree.
-use mathlib.Core.Path.{_≡_, refl, ap, _∙_}
-use mathlib.Core.Bool.{true, false}
+use mathlib.Core.Path.{_≡_, refl, ap}
+use mathlib.Core.Bool.{true}
 use mathlib.Core.List.{List}
 use Prim.Native.Nat.{ℕ, _+_, _-_, _≤_, _<_}
 use native.Mathlib.Omega.{arith}
@@ -13,7 +13,7 @@ use Rattle.records.proofs.Bools.{or-cases, or-more, clash, or-last}
 use Rattle.language.specs.Statements.{readsOf}
 use Rattle.language.proofs.Subtrees.{reads-nodes}
 use Rattle.summaries.specs.Summary.{Needs}
-use Rattle.tables.specs.Tables.{Within, Range}
+use Rattle.tables.specs.Tables.{Range}
 
 -- a node that reads no variable
 pub none-read : (t : List ℕ) (i w : ℕ) → (kindAt t i ≡ 2 → ⊥) → has w ≡ none → Range t i (i + 1) w

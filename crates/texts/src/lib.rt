@@ -2,9 +2,8 @@
 //
 // A position counts the bytes that wait at the start of the buffer.
 ghost use mathlib.Core.Path.{_≡_};
-ghost use mathlib.Core.List.{_++_};
 ghost use Prim.Native.Nat.{_+_, _≤_, _<_};
-ghost use lib.ListN.{length, take};
+ghost use lib.ListN.{length};
 ghost use Rattle.texts.specs.Room.{Put};
 
 // The smaller number.

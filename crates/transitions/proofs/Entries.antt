@@ -7,10 +7,9 @@ use lib.ListN.{length, replicate, length-append}
 use Rattle.records.specs.Fields.{paramsOf, varsOf, countOf}
 use Rattle.records.specs.Parts.{startOf, partOf}
 use Rattle.language.specs.Types as types
-use Rattle.semantics.specs.Values.{Value, nothing, Ty}
-use Rattle.semantics.specs.Program.{Fun}
+use Rattle.semantics.specs.Values.{Value, nothing}
 use Rattle.semantics.specs.Machine.{Frame, Control, Saved, saved, calm, running, entered, blank}
-use Rattle.semantics.specs.File.{typesFrom, funOf}
+use Rattle.semantics.specs.File.{funOf}
 use Rattle.semantics.proofs.Operands.{types-length}
 use Rattle.image.specs.Image.{savedFrames}
 use Rattle.image.specs.Core.{core}

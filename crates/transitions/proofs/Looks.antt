@@ -1,17 +1,16 @@
 -- What stands at a node of a known kind.
 use mathlib.Core.Path.{_≡_, refl}
 use mathlib.Core.List.{List}
-use Prim.Native.Nat.{ℕ, _+_, _*_, _-_, _≤_, _<_}
+use Prim.Native.Nat.{ℕ, _+_, _*_, _-_, _≤_}
 use native.Mathlib.Omega.{arith}
 use lib.Dec.{eqb}
 use lib.ListN.{getD}
-use Rattle.varset.specs.Lowest.{pick}
 use Rattle.records.specs.Fields.{countOf, kindAt, bAt}
 use Rattle.records.specs.Parts.{startOf, partOf}
 use Rattle.records.proofs.Parts.{part-byte}
 use Rattle.semantics.specs.Values.{nothing, int, truth}
-use Rattle.semantics.specs.Program.{Look, const}
-use Rattle.semantics.specs.Machine.{Control, eval, reachL}
+use Rattle.semantics.specs.Program.{const}
+use Rattle.semantics.specs.Machine.{eval, reachL}
 use Rattle.semantics.specs.File.{looks, lookAt}
 use Rattle.semantics.proofs.Levels.{by-look}
 

@@ -1,14 +1,14 @@
 -- Steps by what they do to the head, the frames and the limits.
-use mathlib.Core.Path.{_≡_, refl, sym, ap, _∙_}
-use mathlib.Core.Bool.{true, false, _&&_, and-false, true≢false}
-use mathlib.Core.List.{List, [], _∷_, _++_}
-use Prim.Native.Nat.{ℕ, suc, _+_, _≤_, _<_}
+use mathlib.Core.Path.{_≡_, refl, sym, _∙_}
+use mathlib.Core.Bool.{true, false, and-false, true≢false}
+use mathlib.Core.List.{List, _∷_, _++_}
+use Prim.Native.Nat.{ℕ, _+_, _≤_, _<_}
 use native.Mathlib.Omega.{arith}
 use lib.Dec.{leb}
 use lib.ListN.{length, length-append}
 use borrow.Author.Tests.{le-leb, lt-leb}
 use Rattle.semantics.specs.Values.{Value}
-use Rattle.semantics.specs.Machine.{Frame, Control, Saved, saved, Ambient, calm, State, running}
+use Rattle.semantics.specs.Machine.{Frame, Control, Saved, Ambient, calm, State, running}
 use Rattle.semantics.specs.Fit as fit
 use Rattle.semantics.specs.Run.{within}
 use Rattle.image.specs.Image.{savedFrames}
@@ -19,7 +19,7 @@ use Rattle.store.specs.Meaning.{controlIs}
 use Rattle.transitions.specs.declared.Head.{Head}
 use Rattle.transitions.specs.declared.Stepped.{Stepped}
 use Rattle.transitions.specs.declared.Stepped.the-variants.{Went, Full, Returned, Arith, Abort}
-use Rattle.transitions.specs.Comes.{Tells, On, Comes}
+use Rattle.transitions.specs.Comes.{Tells, Comes}
 
 -- ---- limits
 

@@ -11,9 +11,9 @@ use records::params_of;
 use records::result_of;
 use records::wide;
 ghost use mathlib.Core.Path.{_≡_};
-ghost use Prim.Native.Nat.{ℕ, _+_, _*_, _-_, _≤_, _<_};
+ghost use Prim.Native.Nat.{_+_, _*_, _-_, _≤_, _<_};
 ghost use lib.ListN.{length, getD};
-ghost use Rattle.records.specs.Fields.{functions, paramsOf, kindAt, aAt, bAt};
+ghost use Rattle.records.specs.Fields.{functions, paramsOf, kindAt};
 ghost use Rattle.records.specs.Parts.{Laid};
 ghost use Rattle.records.specs.Search.{firstOf};
 ghost use Rattle.records.specs.Children.{children};
@@ -21,7 +21,6 @@ ghost use Rattle.language.specs.Types.{paramType, varType, operatorType, typeAt
 ghost use Rattle.language.specs.Nodes.{mistyped};
 ghost use Rattle.language.specs.Known.{Known, Calls};
 ghost use Rattle.scopes.specs.Counts.{Decls};
-ghost use Rattle.typing.specs.Types.{Typed};
 
 // The type of parameter k of function f.
 pub fn param_type(file: &[u8], f: usize, k: usize) -> u8

@@ -1,6 +1,6 @@
 // Sets of variables over a word: member i is bit i.
 ghost use mathlib.Core.Path.{_≡_};
-ghost use Prim.Native.Nat.{ℕ, _<_, _≤_};
+ghost use Prim.Native.Nat.{_<_, _≤_};
 ghost use Rattle.varset.specs.Lowest.{lowest};
 ghost use Rattle.varset.specs.Sets.{has, none, with, without, both, either, less, below};
 

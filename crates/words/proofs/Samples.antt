@@ -6,7 +6,7 @@ use Prim.Native.Nat.{ℕ, _+_}
 use lib.Dec.{ltb}
 use lib.ListN.{getD}
 use Rattle.words.specs.Blocks.{puts, allZero, eqWords}
-use Rattle.words.specs.Stacks.{words, region, entries}
+use Rattle.words.specs.Stacks.{region, entries}
 use Rattle.words.specs.Walks.{canonical, scan}
 use Rattle.words.specs.Segments.{segments}
 

@@ -1,13 +1,9 @@
 use mathlib.Core.Path.{refl, _∙_}
-use native.Mathlib.Omega.{arith}
 use Rattle.store.specs.Meaning.{activationAt}
 use Rattle.image.proofs.Calls.{caller-count}
 use borrow.Author.Needs.{needs}
 use Rattle.activations.proofs.caller_frames.Statement.{statement}
 use Rattle.activations.proofs.caller_frames.Tie as tie
-use Rattle.activations.proofs.caller_frames.Reads as reads
-use Rattle.activations.proofs.caller_frames.Lts as lts
-use Rattle.activation_words.proofs.activation_word.Reads as activation-word-reads
 
 -- src/lib.rt:87:5
 activation-word-requires : tie.Need-activation-word-requires

@@ -1,13 +1,10 @@
-use mathlib.Core.Path.{refl, _∙_}
+use mathlib.Core.Path.{_∙_}
 use native.Mathlib.Omega.{arith}
 use Rattle.store.specs.Meaning.{activationAt}
 use Rattle.image.proofs.Calls.{caller-function}
 use borrow.Author.Needs.{needs}
 use Rattle.activations.proofs.caller_function.Statement.{statement}
 use Rattle.activations.proofs.caller_function.Tie as tie
-use Rattle.activations.proofs.caller_function.Reads as reads
-use Rattle.activations.proofs.caller_function.Lts as lts
-use Rattle.activation_words.proofs.activation_word.Reads as activation-word-reads
 
 -- src/lib.rt:79:5
 activation-word-requires : tie.Need-activation-word-requires

@@ -6,12 +6,6 @@ use Rattle.image.proofs.Calls.{enter-copy}
 use borrow.Author.Needs.{needs}
 use Rattle.activations.proofs.enter.Statement.{statement}
 use Rattle.activations.proofs.enter.Tie as tie
-use Rattle.activations.proofs.enter.Reads as reads
-use Rattle.activations.proofs.enter.Lts as lts
-use Rattle.activations.proofs.open.Reads as open-reads
-use Rattle.frame_words.proofs.drop_frames.Reads as drop-frames-reads
-use Rattle.activation_words.proofs.put_variable.Reads as put-variable-reads
-use Rattle.words.proofs.copy_down.Reads as copy-down-reads
 
 -- src/lib.rt:123:5
 open-requires : tie.Need-open-requires

@@ -3,9 +3,6 @@ use Rattle.image.proofs.Calls as calls
 use borrow.Author.Needs.{needs}
 use Rattle.activations.proofs.enter_none.Statement.{statement}
 use Rattle.activations.proofs.enter_none.Tie as tie
-use Rattle.activations.proofs.enter_none.Reads as reads
-use Rattle.activations.proofs.enter_none.Lts as lts
-use Rattle.activations.proofs.open.Reads as open-reads
 
 -- src/lib.rt:61:5
 open-requires : tie.Need-open-requires

@@ -6,11 +6,6 @@ use Rattle.image.proofs.Calls as calls
 use borrow.Author.Needs.{needs}
 use Rattle.activations.proofs.leave.Statement.{statement}
 use Rattle.activations.proofs.leave.Tie as tie
-use Rattle.activations.proofs.leave.Reads as reads
-use Rattle.activations.proofs.leave.Lts as lts
-use Rattle.activation_words.proofs.drop_activation.Reads as drop-activation-reads
-use Rattle.frame_words.proofs.drop_frames.Reads as drop-frames-reads
-use Rattle.activation_words.proofs.put_frame_count.Reads as put-frame-count-reads
 
 -- src/lib.rt:59:5
 drop-frames-requires : tie.Need-drop-frames-requires

@@ -5,10 +5,6 @@ use Rattle.store.specs.Meaning.{activationAt}
 use borrow.Author.Needs.{needs}
 use Rattle.activations.proofs.open.Statement.{statement}
 use Rattle.activations.proofs.open.Tie as tie
-use Rattle.activations.proofs.open.Reads as reads
-use Rattle.activations.proofs.open.Lts as lts
-use Rattle.activation_words.proofs.put_activation.Reads as put-activation-reads
-use Rattle.activation_words.proofs.put_frame_count.Reads as put-frame-count-reads
 
 -- src/lib.rt:52:5
 put-frame-count-requires : tie.Need-put-frame-count-requires

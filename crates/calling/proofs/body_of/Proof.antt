@@ -1,6 +1,5 @@
-use mathlib.Core.Path.{sym, ap, _∙_}
+use mathlib.Core.Path.{_∙_}
 use borrow.Author.Tests.{ne-eqb}
-use native.Mathlib.Omega.{arith}
 use Rattle.semantics.specs.File.{refAt, funOf}
 use Rattle.semantics.specs.Program.{node}
 use Rattle.image.specs.Layout.{refWord}
@@ -10,8 +9,6 @@ use Rattle.transitions.proofs.Looks.{body-kind}
 use borrow.Author.Needs.{needs}
 use Rattle.calling.proofs.body_of.Statement.{statement}
 use Rattle.calling.proofs.body_of.Tie as tie
-use Rattle.calling.proofs.body_of.Reads as reads
-use Rattle.calling.proofs.body_of.Lts as lts
 
 -- src/lib.rt:161:16
 sub-root : tie.Need-sub-root

@@ -1,11 +1,8 @@
-use mathlib.Core.Path.{sym, ap, _∙_}
+use mathlib.Core.Path.{sym, _∙_}
 use Rattle.image.proofs.Heads.{clear-core}
 use borrow.Author.Needs.{needs}
 use Rattle.calling.proofs.clear.Statement.{statement}
 use Rattle.calling.proofs.clear.Tie as tie
-use Rattle.calling.proofs.clear.Reads as reads
-use Rattle.calling.proofs.clear.Lts as lts
-use Rattle.words.proofs.zero_at.Reads as zero-at-reads
 
 -- src/lib.rt:258:5
 zero-at-requires : tie.Need-zero-at-requires

@@ -1,9 +1,8 @@
 use mathlib.Core.List.{[], _∷_, _++_}
 use Rattle.semantics.specs.Machine as machine
-use mathlib.Core.Path.{_≡_, refl, sym, ap, _∙_}
-use Prim.Native.Nat.{ℕ, suc, _+_, _-_, _≤_}
+use mathlib.Core.Path.{refl, ap, _∙_}
+use Prim.Native.Nat.{suc, _+_, _-_}
 use native.Mathlib.Omega.{arith}
-use lib.ListN.{length}
 use Rattle.records.specs.Fields.{varsOf}
 use Rattle.store.specs.Meaning.{controlIs, valueIs}
 use Rattle.transitions.proofs.Steps.{counted-under}
@@ -12,13 +11,6 @@ use Rattle.starts.proofs.Tables.{part-laid}
 use borrow.Author.Needs.{needs}
 use Rattle.calling.proofs.enter.Statement.{statement}
 use Rattle.calling.proofs.enter.Tie as tie
-use Rattle.calling.proofs.enter.Reads as reads
-use Rattle.calling.proofs.enter.Lts as lts
-use Rattle.activations.proofs.enter.Reads as enter-reads
-use Rattle.records.proofs.count_of.Reads as count-of-reads
-use Rattle.records.proofs.vars_of.Reads as vars-of-reads
-use Rattle.records.proofs.wide.Reads as wide-reads
-use Rattle.calling.proofs.body_of.Reads as body-of-reads
 
 -- src/lib.rt:201:9
 returns : tie.Need-returns

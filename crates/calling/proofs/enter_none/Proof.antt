@@ -1,5 +1,4 @@
-use mathlib.Core.Path.{_≡_, refl, sym, ap, _∙_}
-use mathlib.Core.List.{[], _∷_, _++_}
+use mathlib.Core.Path.{refl, ap, _∙_}
 use native.Mathlib.Omega.{arith}
 use lib.ListN.{replicate}
 use Rattle.semantics.specs.Values.{nothing}
@@ -11,13 +10,6 @@ use Rattle.starts.proofs.Tables.{part-laid}
 use borrow.Author.Needs.{needs}
 use Rattle.calling.proofs.enter_none.Statement.{statement}
 use Rattle.calling.proofs.enter_none.Tie as tie
-use Rattle.calling.proofs.enter_none.Reads as reads
-use Rattle.calling.proofs.enter_none.Lts as lts
-use Rattle.activations.proofs.enter_none.Reads as enter-none-reads
-use Rattle.records.proofs.count_of.Reads as count-of-reads
-use Rattle.records.proofs.vars_of.Reads as vars-of-reads
-use Rattle.records.proofs.wide.Reads as wide-reads
-use Rattle.calling.proofs.body_of.Reads as body-of-reads
 
 -- src/lib.rt:176:9
 returns : tie.Need-returns

@@ -1,8 +1,8 @@
 use Rattle.records.specs.Fields.{functions}
-use mathlib.Core.Path.{_≡_, refl, sym, ap, _∙_}
-use Prim.Native.Nat.{ℕ, suc, _+_, _-_, _≤_, _<_}
+use mathlib.Core.Path.{refl, sym, _∙_}
+use Prim.Native.Nat.{_-_, _<_}
 use native.Mathlib.Omega.{arith}
-use lib.ListN.{length, length-append}
+use lib.ListN.{length-append}
 use Rattle.store.specs.Meaning.{controlIs}
 use Rattle.image.specs.Image.{savedFrames}
 use Rattle.transitions.proofs.Entries.{left-tells, left-callers, left-under, on-is}
@@ -10,12 +10,6 @@ use Rattle.starts.proofs.Tables.{start-at}
 use borrow.Author.Needs.{needs}
 use Rattle.calling.proofs.leave.Statement.{statement}
 use Rattle.calling.proofs.leave.Tie as tie
-use Rattle.calling.proofs.leave.Reads as reads
-use Rattle.calling.proofs.leave.Lts as lts
-use Rattle.activations.proofs.caller_frames.Reads as caller-frames-reads
-use Rattle.activations.proofs.caller_function.Reads as caller-function-reads
-use Rattle.activations.proofs.leave.Reads as leave-reads
-use Rattle.records.proofs.count_of.Reads as count-of-reads
 
 at-hand-requires : tie.Need-at-hand-requires
 at-hand-requires c κs = search needs

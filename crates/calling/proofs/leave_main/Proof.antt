@@ -3,9 +3,6 @@ use Rattle.transitions.specs.Comes.{Comes}
 use borrow.Author.Needs.{needs}
 use Rattle.calling.proofs.leave_main.Statement.{statement}
 use Rattle.calling.proofs.leave_main.Tie as tie
-use Rattle.calling.proofs.leave_main.Reads as reads
-use Rattle.calling.proofs.leave_main.Lts as lts
-use Rattle.heads.proofs.leave_main.Reads as leave-main-reads
 
 -- src/lib.rt:249:5
 leave-main-requires : tie.Need-leave-main-requires

@@ -6,9 +6,6 @@ use native.Mathlib.Omega.{arith}
 use borrow.Author.Needs.{needs}
 use Rattle.callstack.proofs.gain.Statement.{statement}
 use Rattle.callstack.proofs.gain.Tie as tie
-use Rattle.callstack.proofs.gain.Reads as reads
-use Rattle.callstack.proofs.gain.Lts as lts
-use Rattle.frame_words.proofs.put_slot.Reads as put-slot-reads
 
 -- src/lib.rt:103:5
 put-slot-requires : tie.Need-put-slot-requires

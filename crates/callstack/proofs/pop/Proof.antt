@@ -4,9 +4,6 @@ use Rattle.image.proofs.Frames.{pop-frame}
 use borrow.Author.Needs.{needs}
 use Rattle.callstack.proofs.pop.Statement.{statement}
 use Rattle.callstack.proofs.pop.Tie as tie
-use Rattle.callstack.proofs.pop.Reads as reads
-use Rattle.callstack.proofs.pop.Lts as lts
-use Rattle.frame_words.proofs.drop_frames.Reads as drop-frames-reads
 
 -- src/lib.rt:26:5
 drop-frames-requires : tie.Need-drop-frames-requires

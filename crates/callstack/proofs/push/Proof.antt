@@ -5,9 +5,6 @@ use Rattle.image.proofs.Frames.{push-frame}
 use borrow.Author.Needs.{needs}
 use Rattle.callstack.proofs.push.Statement.{statement}
 use Rattle.callstack.proofs.push.Tie as tie
-use Rattle.callstack.proofs.push.Reads as reads
-use Rattle.callstack.proofs.push.Lts as lts
-use Rattle.frame_words.proofs.put_frame.Reads as put-frame-reads
 
 -- src/lib.rt:18:5
 put-frame-requires : tie.Need-put-frame-requires

@@ -4,9 +4,6 @@ use Rattle.image.proofs.Variables.{store-variable}
 use borrow.Author.Needs.{needs}
 use Rattle.callstack.proofs.set_variable.Statement.{statement}
 use Rattle.callstack.proofs.set_variable.Tie as tie
-use Rattle.callstack.proofs.set_variable.Reads as reads
-use Rattle.callstack.proofs.set_variable.Lts as lts
-use Rattle.activation_words.proofs.put_variable.Reads as put-variable-reads
 
 -- src/lib.rt:42:5
 put-variable-requires : tie.Need-put-variable-requires

@@ -4,9 +4,6 @@ use Rattle.image.proofs.Variables.{variable-back}
 use borrow.Author.Needs.{needs}
 use Rattle.callstack.proofs.variable.Statement.{statement}
 use Rattle.callstack.proofs.variable.Tie as tie
-use Rattle.callstack.proofs.variable.Reads as reads
-use Rattle.callstack.proofs.variable.Lts as lts
-use Rattle.activation_words.proofs.variable.Reads as variable-reads
 
 -- src/lib.rt:34:5
 variable-requires : tie.Need-variable-requires

@@ -1,12 +1,8 @@
 use mathlib.Core.Path.{refl}
-use Rattle.store.specs.Meaning.{refIs, controlIs}
+use Rattle.store.specs.Meaning.{controlIs}
 use borrow.Author.Needs.{needs}
 use Rattle.descent.proofs.begin.Statement.{statement}
 use Rattle.descent.proofs.begin.Tie as tie
-use Rattle.descent.proofs.begin_expression.Reads as begin-expression-reads
-use Rattle.descent.proofs.begin_statement.Reads as begin-statement-reads
-use Rattle.descent.proofs.begin_value.Reads as begin-value-reads
-use Rattle.store.proofs.ref_of.Reads as ref-of-reads
 
 enum-told : tie.Need-enum-told
 enum-told c = search needs

@@ -2,7 +2,6 @@ use mathlib.Core.Path.{refl, _∙_}
 use borrow.Author.Needs.{needs}
 use Rattle.descent.proofs.begin_value.Statement.{statement}
 use Rattle.descent.proofs.begin_value.Tie as tie
-use Rattle.frames.proofs.giving.Reads as giving-reads
 
 giving-requires : tie.Need-giving-requires
 giving-requires c κs = search needs

@@ -1,8 +1,6 @@
 use borrow.Author.Needs.{needs}
 use Rattle.fitness.proofs.activation_with.Statement.{statement}
 use Rattle.fitness.proofs.activation_with.Tie as tie
-use Rattle.fitness.proofs.activation_in.Reads as activation-in-reads
-use Rattle.tables.proofs.fill.Reads as fill-reads
 
 activation-in-requires : tie.Need-activation-in-requires
 activation-in-requires c κs = let b = c .before .before .before .before .before .before in ((b .pre .0 .0, (b .pre .0 .2 (c .before .if1 .taken), b .pre .0 .1)), b .pre .1)

@@ -1,14 +1,10 @@
 use Rattle.fitness.proofs.Rests.{fit-rest}
 use Rattle.frames.proofs.Files.{laid}
 use Rattle.semantics.specs.File.{programOf}
-use native.Mathlib.Omega.{arith}
 use mathlib.Core.Path.{sym}
 use borrow.Author.Needs.{needs}
 use Rattle.fitness.proofs.fits.Statement.{statement}
 use Rattle.fitness.proofs.fits.Tie as tie
-use Rattle.fitness.proofs.fits.Reads as reads
-use Rattle.fitness.proofs.fits.Lts as lts
-use Rattle.fitness.proofs.running_fits.Reads as running-fits-reads
 
 -- src/lib.rt:319:8
 shared-slice-read-if1 : tie.Need-shared-slice-read-if1

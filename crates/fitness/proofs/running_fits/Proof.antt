@@ -1,4 +1,4 @@
-use Rattle.fitness.proofs.Rests.{fit-rest, few, fewer, some, fits-less, fits-more}
+use Rattle.fitness.proofs.Rests.{few, fewer, some, fits-less, fits-more}
 use Rattle.fitness.proofs.Lists.{fit-known, held-last}
 use Rattle.activation_words.proofs.Totals.{total-last}
 use Prim.Native.Nat.{_-_}
@@ -15,14 +15,6 @@ use mathlib.Core.Path.{sym, _∙_}
 use borrow.Author.Needs.{needs}
 use Rattle.fitness.proofs.running_fits.Statement.{statement}
 use Rattle.fitness.proofs.running_fits.Tie as tie
-use Rattle.fitness.proofs.running_fits.Reads as reads
-use Rattle.fitness.proofs.running_fits.Lts as lts
-use Rattle.activation_words.proofs.activation_word.Reads as activation-word-reads
-use Rattle.fitness.proofs.activation_fits.Reads as activation-fits-reads
-use Rattle.fitness.proofs.callers_fit.Reads as callers-fit-reads
-use Rattle.activation_words.proofs.frames_held.Reads as frames-held-reads
-use Rattle.starts.proofs.starts_of.Reads as starts-of-reads
-use Rattle.store.proofs.control_of.Reads as control-of-reads
 
 -- src/lib.rt:303:13
 shared-slice-read-n : tie.Need-shared-slice-read-n

@@ -3,17 +3,10 @@ use Rattle.tables.proofs.Looking.{row-room, condition-row}
 use Rattle.flowfacts.proofs.Trees.{loop-if}
 use Rattle.nodefacts.proofs.Parts.{inside, loop-above}
 use native.Mathlib.Omega.{arith}
-use mathlib.Core.Path.{refl, _∙_}
+use mathlib.Core.Path.{refl}
 use borrow.Author.Needs.{needs}
 use Rattle.flowfacts.proofs.if_through.Statement.{statement}
 use Rattle.flowfacts.proofs.if_through.Tie as tie
-use Rattle.flowfacts.proofs.if_through.Reads as reads
-use Rattle.flowfacts.proofs.if_through.Lts as lts
-use Rattle.flowfacts.proofs.is_within.Reads as is-within-reads
-use Rattle.flowfacts.proofs.seq_through.Reads as seq-through-reads
-use Rattle.node_records.proofs.prior.Reads as prior-reads
-use Rattle.tables.proofs.needs_at.Reads as needs-at-reads
-use Rattle.varset.proofs.VarSet.meet.Reads as meet-reads
 
 -- src/lib.rt:86:54
 sub-prior : tie.Need-sub-prior

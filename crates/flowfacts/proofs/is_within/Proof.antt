@@ -3,10 +3,6 @@ use mathlib.Core.Path.{sym, _∙_}
 use borrow.Author.Needs.{needs}
 use Rattle.flowfacts.proofs.is_within.Statement.{statement}
 use Rattle.flowfacts.proofs.is_within.Tie as tie
-use Rattle.flowfacts.proofs.is_within.Reads as reads
-use Rattle.flowfacts.proofs.is_within.Lts as lts
-use Rattle.rows.proofs.is_none.Reads as is-none-reads
-use Rattle.varset.proofs.VarSet.minus.Reads as minus-reads
 
 -- src/lib.rt:29:19
 minus-requires : tie.Need-minus-requires

@@ -6,10 +6,6 @@ use mathlib.Core.Path.{_∙_}
 use borrow.Author.Needs.{needs}
 use Rattle.flowfacts.proofs.reads_held.Statement.{statement}
 use Rattle.flowfacts.proofs.reads_held.Tie as tie
-use Rattle.flowfacts.proofs.reads_held.Reads as reads
-use Rattle.flowfacts.proofs.reads_held.Lts as lts
-use Rattle.flowfacts.proofs.is_within.Reads as is-within-reads
-use Rattle.tables.proofs.needs_at.Reads as needs-at-reads
 
 -- src/lib.rt:147:15
 needs-at-requires : tie.Need-needs-at-requires

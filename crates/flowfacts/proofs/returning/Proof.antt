@@ -7,9 +7,6 @@ use mathlib.Core.Path.{sym, _∙_}
 use borrow.Author.Needs.{needs}
 use Rattle.flowfacts.proofs.returning.Statement.{statement}
 use Rattle.flowfacts.proofs.returning.Tie as tie
-use Rattle.flowfacts.proofs.returning.Reads as reads
-use Rattle.flowfacts.proofs.returning.Lts as lts
-use Rattle.tables.proofs.row_at.Reads as row-at-reads
 
 -- src/lib.rt:127:21
 enum-told : tie.Need-enum-told

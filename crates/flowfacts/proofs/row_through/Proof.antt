@@ -4,12 +4,6 @@ use mathlib.Core.Path.{refl, _∙_}
 use borrow.Author.Needs.{needs}
 use Rattle.flowfacts.proofs.row_through.Statement.{statement}
 use Rattle.flowfacts.proofs.row_through.Tie as tie
-use Rattle.flowfacts.proofs.row_through.Reads as reads
-use Rattle.flowfacts.proofs.row_through.Lts as lts
-use Rattle.flowfacts.proofs.is_within.Reads as is-within-reads
-use Rattle.tables.proofs.row_at.Reads as row-at-reads
-use Rattle.varset.proofs.VarSet.minus.Reads as minus-reads
-use Rattle.varset.proofs.VarSet.union.Reads as union-reads
 
 -- src/lib.rt:37:9
 row-at-requires : tie.Need-row-at-requires

@@ -1,14 +1,10 @@
-use Rattle.tables.proofs.Looking.{row-room, while-row, body-row, body-below}
+use Rattle.tables.proofs.Looking.{row-room, while-row, body-row}
 use Rattle.flowfacts.proofs.Trees.{loop-seq}
 use Rattle.nodefacts.proofs.Parts.{loop-above}
 use native.Mathlib.Omega.{arith}
 use mathlib.Core.Path.{refl}
-use borrow.Author.Needs.{needs}
 use Rattle.flowfacts.proofs.seq_through.Statement.{statement}
 use Rattle.flowfacts.proofs.seq_through.Tie as tie
-use Rattle.flowfacts.proofs.seq_through.Reads as reads
-use Rattle.flowfacts.proofs.seq_through.Lts as lts
-use Rattle.flowfacts.proofs.row_through.Reads as row-through-reads
 
 -- src/lib.rt:61:35
 sub-row-through : tie.Need-sub-row-through

@@ -1,15 +1,10 @@
 use Rattle.tables.proofs.Looking.{row-room, statement-row}
 use Rattle.nodefacts.proofs.Refs.{node-is, node-within, if-within, seq-within}
 use Rattle.flowfacts.proofs.Refs.{nop-flows, node-flows, if-flows, seq-flows}
-use mathlib.Core.Path.{sym, _∙_}
+use mathlib.Core.Path.{_∙_}
 use borrow.Author.Needs.{needs}
 use Rattle.flowfacts.proofs.through.Statement.{statement}
 use Rattle.flowfacts.proofs.through.Tie as tie
-use Rattle.flowfacts.proofs.through.Reads as reads
-use Rattle.flowfacts.proofs.through.Lts as lts
-use Rattle.flowfacts.proofs.if_through.Reads as if-through-reads
-use Rattle.flowfacts.proofs.row_through.Reads as row-through-reads
-use Rattle.flowfacts.proofs.seq_through.Reads as seq-through-reads
 
 -- src/lib.rt:111:21
 enum-told : tie.Need-enum-told

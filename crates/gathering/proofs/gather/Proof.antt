@@ -1,6 +1,5 @@
-use mathlib.Core.Path.{refl, _≡_, sym, ap, _∙_}
+use mathlib.Core.Path.{refl, _∙_}
 use mathlib.Core.List.{_∷_, []}
-use Prim.Native.Nat.{_≤_}
 use native.Mathlib.Omega.{arith}
 use Rattle.semantics.specs.Machine as machine
 use Rattle.transitions.proofs.Steps.{counted, moved, full}
@@ -8,10 +7,6 @@ use Rattle.transitions.proofs.Entries.{on-is}
 use borrow.Author.Needs.{needs}
 use Rattle.gathering.proofs.gather.Statement.{statement}
 use Rattle.gathering.proofs.gather.Tie as tie
-use Rattle.gathering.proofs.gather.Reads as reads
-use Rattle.gathering.proofs.gather.Lts as lts
-use Rattle.topframe.proofs.push_gather.Reads as push-gather-reads
-use Rattle.gathering.proofs.reach.Reads as reach-reads
 
 -- src/lib.rt:138:13
 add-n : tie.Need-add-n

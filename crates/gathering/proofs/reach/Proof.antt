@@ -1,14 +1,9 @@
-use mathlib.Core.Path.{sym, ap, _∙_}
-use Rattle.semantics.specs.Machine.{reachL}
+use mathlib.Core.Path.{sym, _∙_}
 use Rattle.store.specs.Meaning.{controlIs, valueIs}
 use Rattle.transitions.proofs.Looks.{look-int, look-bool, look-nothing, reach-other}
 use borrow.Author.Needs.{needs}
 use Rattle.gathering.proofs.reach.Statement.{statement}
 use Rattle.gathering.proofs.reach.Tie as tie
-use Rattle.gathering.proofs.reach.Reads as reads
-use Rattle.gathering.proofs.reach.Lts as lts
-use Rattle.node_records.proofs.b_at.Reads as b-at-reads
-use Rattle.node_records.proofs.kind_at.Reads as kind-at-reads
 
 -- src/lib.rt:124:9
 kind-at-requires : tie.Need-kind-at-requires

@@ -4,9 +4,6 @@ use Rattle.image.proofs.Calls as calls
 use borrow.Author.Needs.{needs}
 use Rattle.heads.proofs.enter_main.Statement.{statement}
 use Rattle.heads.proofs.enter_main.Tie as tie
-use Rattle.heads.proofs.enter_main.Reads as reads
-use Rattle.heads.proofs.enter_main.Lts as lts
-use Rattle.activation_words.proofs.put_activation.Reads as put-activation-reads
 
 -- src/lib.rt:70:5
 put-activation-requires : tie.Need-put-activation-requires

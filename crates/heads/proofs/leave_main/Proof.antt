@@ -6,10 +6,6 @@ use Rattle.image.proofs.Calls as calls
 use borrow.Author.Needs.{needs}
 use Rattle.heads.proofs.leave_main.Statement.{statement}
 use Rattle.heads.proofs.leave_main.Tie as tie
-use Rattle.heads.proofs.leave_main.Reads as reads
-use Rattle.heads.proofs.leave_main.Lts as lts
-use Rattle.activation_words.proofs.drop_activation.Reads as drop-activation-reads
-use Rattle.frame_words.proofs.drop_frames.Reads as drop-frames-reads
 
 -- src/lib.rt:78:5
 drop-frames-requires : tie.Need-drop-frames-requires

@@ -1,5 +1,4 @@
 use mathlib.Core.Path.{_∙_}
-use Prim.Native.Nat.{_+_, _*_}
 use Rattle.store.specs.Meaning.{activationAt}
 use Rattle.image.proofs.Heads as heads
 use lib.ListN.{length-set}
@@ -7,9 +6,6 @@ use native.Mathlib.Omega.{arith}
 use borrow.Author.Needs.{needs}
 use Rattle.heads.proofs.store_head.Statement.{statement}
 use Rattle.heads.proofs.store_head.Tie as tie
-use Rattle.heads.proofs.store_head.Reads as reads
-use Rattle.heads.proofs.store_head.Lts as lts
-use Rattle.activation_words.proofs.put_frame_count.Reads as put-frame-count-reads
 
 -- src/lib.rt:126:5
 slice-write-m : tie.Need-slice-write-m

@@ -1,24 +1,13 @@
 use lib.ListN.{length-set}
-use mathlib.Core.Path.{_≡_, refl, sym, ap, _∙_}
+use mathlib.Core.Path.{refl, _∙_}
 use mathlib.Core.List.{[]}
-use Prim.Native.Nat.{ℕ, _≤_, _<_}
 use native.Mathlib.Omega.{arith}
-use Rattle.records.specs.Parts.{Laid}
 use Rattle.starts.proofs.Tables.{part-laid}
 use Rattle.stepping.proofs.Leaves.{pos}
 use Rattle.machine.proofs.Starting.{cleared, two-set, main-spent, file-laid, main-known, begun-fit, begun-tells, begun-stands, begun-ends}
 use borrow.Author.Needs.{needs}
 use Rattle.machine.proofs.begin.Statement.{statement}
 use Rattle.machine.proofs.begin.Tie as tie
-use Rattle.machine.proofs.begin.Reads as reads
-use Rattle.machine.proofs.begin.Lts as lts
-use Rattle.heads.proofs.enter_main.Reads as enter-main-reads
-use Rattle.machine.proofs.go.Reads as go-reads
-use Rattle.starts.proofs.starts_of.Reads as starts-of-reads
-use Rattle.records.proofs.count_of.Reads as count-of-reads
-use Rattle.records.proofs.vars_of.Reads as vars-of-reads
-use Rattle.records.proofs.wide.Reads as wide-reads
-use Rattle.calling.proofs.body_of.Reads as body-of-reads
 
 -- src/lib.rt:171:9
 returns : tie.Need-returns

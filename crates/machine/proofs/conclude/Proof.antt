@@ -1,14 +1,11 @@
 use lib.ListN.{length-set}
-use mathlib.Core.Path.{_≡_, refl, sym, ap, _∙_}
+use mathlib.Core.Path.{_∙_}
 use native.Mathlib.Omega.{arith}
 use native.Mathlib.Nat.{sub-zero}
 use Rattle.machine.proofs.Starting.{cleared}
 use borrow.Author.Needs.{needs}
 use Rattle.machine.proofs.conclude.Statement.{statement}
 use Rattle.machine.proofs.conclude.Tie as tie
-use Rattle.machine.proofs.conclude.Reads as reads
-use Rattle.machine.proofs.conclude.Lts as lts
-use Rattle.machine.proofs.finish.Reads as finish-reads
 
 -- src/lib.rt:160:5
 slice-write-m : tie.Need-slice-write-m

@@ -1,5 +1,4 @@
-use mathlib.Core.Path.{_≡_, refl, sym, ap, _∙_}
-use native.Mathlib.Omega.{arith}
+use mathlib.Core.Path.{refl}
 use mir.Syntax.{w32}
 use mir.ValLaws.{toZ-ofZ}
 use Rattle.semantics.specs.Machine as machine
@@ -7,10 +6,6 @@ use Rattle.machine.proofs.Ending.{value-rests, returned-rests, ends-ste
 use borrow.Author.Needs.{needs}
 use Rattle.machine.proofs.finish.Statement.{statement}
 use Rattle.machine.proofs.finish.Tie as tie
-use Rattle.machine.proofs.finish.Reads as reads
-use Rattle.machine.proofs.finish.Lts as lts
-use Rattle.arith.proofs.signed.Reads as signed-reads
-use Rattle.machine.proofs.put_rest.Reads as put-rest-reads
 
 -- src/lib.rt:99:9
 put-rest-requires : tie.Need-put-rest-requires

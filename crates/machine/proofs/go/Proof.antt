@@ -1,7 +1,7 @@
 use Rattle.machine.proofs.Ending.{arith-rests, abort-rests, ends-spent}
-use mathlib.Core.Path.{_≡_, refl, sym, ap, _∙_}
-use mathlib.Core.List.{List, _∷_, [], _++_}
-use Prim.Native.Nat.{ℕ, _+_, _-_, _≤_, _<_}
+use mathlib.Core.Path.{_≡_, refl, _∙_}
+use mathlib.Core.List.{List, _++_}
+use Prim.Native.Nat.{ℕ, _+_, _-_, _≤_}
 use native.Mathlib.Omega.{arith}
 use borrow.Author.Needs.{needs}
 use lib.ListN.{length}
@@ -15,12 +15,6 @@ use Rattle.transitions.specs.Comes.{Tells}
 use Rattle.machine.proofs.Reaching.{Reached, reached, reached-stands, reached-on, reached-full, reached-returned, reached-arith, reached-abort, reached-bounds}
 use Rattle.machine.proofs.go.Statement.{statement}
 use Rattle.machine.proofs.go.Tie as tie
-use Rattle.machine.proofs.go.Reads as reads
-use Rattle.machine.proofs.go.Lts as lts
-use Rattle.machine.proofs.fail.Reads as fail-reads
-use Rattle.machine.proofs.finish.Reads as finish-reads
-use Rattle.machine.proofs.stop.Reads as stop-reads
-use Rattle.stepping.proofs.step.Reads as step-reads
 
 abbrev Inv-loop : tie.InvT-loop
 Inv-loop file starts m₀ taken allowed c₀ h₀ steps₀ m c h steps =

@@ -1,25 +1,13 @@
-use mathlib.Core.Path.{_≡_, refl, sym, ap, _∙_}
-use mathlib.Core.List.{[]}
-use Prim.Native.Nat.{ℕ, _+_, _*_, _-_, _≤_, _<_}
+use mathlib.Core.Path.{refl, ap, _∙_}
+use Prim.Native.Nat.{ℕ, _-_}
 use native.Mathlib.Omega.{arith}
-use native.Mathlib.Nat.{sub-zero}
-use lib.ListN.{length, getD}
-use Rattle.store.specs.Meaning.{activationAt, controlIs}
+use Rattle.store.specs.Meaning.{activationAt}
 use Rattle.starts.proofs.Tables.{start-at}
 use Rattle.machine.proofs.Starting.{file-laid}
 use Rattle.machine.proofs.Resuming.{resumed-count, resumed-few, resumed-known, resumed-control, resumed-callers, resumed-function, resumed-frames, resumed-total, resumed-tells, resumed-stands, resumed-run}
 use borrow.Author.Needs.{needs}
 use Rattle.machine.proofs.proceed.Statement.{statement}
 use Rattle.machine.proofs.proceed.Tie as tie
-use Rattle.machine.proofs.proceed.Reads as reads
-use Rattle.machine.proofs.proceed.Lts as lts
-use Rattle.heads.proofs.clear_head.Reads as clear-head-reads
-use Rattle.activation_words.proofs.frames_held.Reads as frames-held-reads
-use Rattle.machine.proofs.go.Reads as go-reads
-use Rattle.starts.proofs.starts_of.Reads as starts-of-reads
-use Rattle.records.proofs.count_of.Reads as count-of-reads
-use Rattle.activation_words.proofs.activation_word.Reads as activation-word-reads
-use Rattle.store.proofs.control_of.Reads as control-of-reads
 
 -- src/lib.rt:199:18
 starts-of-requires : tie.Need-starts-of-requires

@@ -1,4 +1,4 @@
-use mathlib.Core.Path.{_≡_, refl, sym, ap, _∙_}
+use mathlib.Core.Path.{refl}
 use Rattle.semantics.specs.Machine.{calm, val, eval, exec}
 use Rattle.semantics.specs.Values.{nothing, int, truth}
 use Rattle.image.specs.Layout.{controlWords}
@@ -8,8 +8,6 @@ use Rattle.store.specs.Meaning.{controlIs}
 use borrow.Author.Needs.{needs}
 use Rattle.machine.proofs.put_back.Statement.{statement}
 use Rattle.machine.proofs.put_back.Tie as tie
-use Rattle.heads.proofs.store_head.Reads as store-head-reads
-use Rattle.store.proofs.bit_of.Reads as bit-of-reads
 
 cast-callers : tie.Need-cast-callers
 cast-callers c = search needs

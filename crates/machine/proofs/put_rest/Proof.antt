@@ -4,8 +4,6 @@ use Rattle.machine.proofs.Ending.{rest-stored}
 use borrow.Author.Needs.{needs}
 use Rattle.machine.proofs.put_rest.Statement.{statement}
 use Rattle.machine.proofs.put_rest.Tie as tie
-use Rattle.machine.proofs.put_rest.Reads as reads
-use Rattle.machine.proofs.put_rest.Lts as lts
 
 -- src/lib.rt:89:5
 slice-write-m : tie.Need-slice-write-m

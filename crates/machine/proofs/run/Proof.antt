@@ -1,16 +1,9 @@
-use mathlib.Core.Path.{_≡_, refl, sym, ap, _∙_}
 use mir.Syntax.{w32}
 use mir.ValLaws.{toZ-ofZ}
 use Rattle.machine.proofs.Tags.{at-main, at-running, at-returned, at-value, at-arith, at-abort, begins, proceeds}
 use borrow.Author.Needs.{needs}
 use Rattle.machine.proofs.run.Statement.{statement}
 use Rattle.machine.proofs.run.Tie as tie
-use Rattle.machine.proofs.run.Reads as reads
-use Rattle.machine.proofs.run.Lts as lts
-use Rattle.arith.proofs.signed.Reads as signed-reads
-use Rattle.machine.proofs.begin.Reads as begin-reads
-use Rattle.machine.proofs.conclude.Reads as conclude-reads
-use Rattle.machine.proofs.proceed.Reads as proceed-reads
 
 -- src/lib.rt:222:15
 slice-read-tag : tie.Need-slice-read-tag

@@ -1,8 +1,6 @@
-use Rattle.panelrue_c.specs.Told.{outcomeNumber, outcomeWord, runNumber, runWords, bitOf, lookNumber, lookWords}
+use Rattle.panelrue_c.specs.Told.{bitOf}
 use Rattle.panelrue_c.proofs.bit.Statement.{statement}
 use Rattle.panelrue_c.proofs.bit.Tie as tie
-use Rattle.panelrue_c.proofs.bit.Reads as reads
-use Rattle.panelrue_c.proofs.bit.Lts as lts
 
 -- src/lib.rt:146:1
 returns : tie.Need-returns

@@ -1,9 +1,7 @@
-use Rattle.panelrue_c.specs.Told.{outcomeNumber, outcomeWord, runNumber, runWords, bitOf, lookNumber, lookWords}
+use Rattle.panelrue_c.specs.Told.{outcomeNumber}
 use borrow.Author.Needs.{needs}
 use Rattle.panelrue_c.proofs.outcome_number.Statement.{statement}
 use Rattle.panelrue_c.proofs.outcome_number.Tie as tie
-use Rattle.panelrue_c.proofs.outcome_number.Reads as reads
-use Rattle.panelrue_c.proofs.outcome_number.Lts as lts
 
 -- src/lib.rt:78:24
 enum-known-outcome : tie.Need-enum-known-outcome

@@ -1,14 +1,9 @@
 use mir.Syntax.{w32}
 use mir.ValLaws.{toZ-ofZ}
-use mathlib.Core.Path.{_≡_, refl, sym, ap, _∙_}
-use native.Mathlib.Omega.{arith}
-use Rattle.panelrue_c.specs.Told.{outcomeNumber, outcomeWord, runNumber, runWords, bitOf, lookNumber, lookWords}
+use Rattle.panelrue_c.specs.Told.{outcomeWord}
 use borrow.Author.Needs.{needs}
 use Rattle.panelrue_c.proofs.outcome_word.Statement.{statement}
 use Rattle.panelrue_c.proofs.outcome_word.Tie as tie
-use Rattle.panelrue_c.proofs.outcome_word.Reads as reads
-use Rattle.panelrue_c.proofs.outcome_word.Lts as lts
-use Rattle.arith.proofs.bits.Reads as bits-reads
 
 -- src/lib.rt:91:24
 enum-known-outcome : tie.Need-enum-known-outcome

@@ -1,19 +1,10 @@
 use mir.Syntax.{w32}
 use mir.ValLaws.{toZ-ofZ}
-use mathlib.Core.Path.{_≡_, refl, sym, ap, _∙_}
-use native.Mathlib.Omega.{arith}
-use Rattle.panelrue_c.specs.Told.{outcomeNumber, outcomeWord, runNumber, runWords, bitOf, lookNumber, lookWords}
-use Rattle.memory.specs.Looks.{lookOf, SmallLook}
+use mathlib.Core.Path.{sym, _∙_}
+use Rattle.panelrue_c.specs.Told.{lookNumber, lookWords}
 use borrow.Author.Needs.{needs}
 use Rattle.panelrue_c.proofs.panelrue_look_up.Statement.{statement}
 use Rattle.panelrue_c.proofs.panelrue_look_up.Tie as tie
-use Rattle.panelrue_c.proofs.panelrue_look_up.Reads as reads
-use Rattle.panelrue_c.proofs.panelrue_look_up.Lts as lts
-use Rattle.arith.proofs.bits.Reads as bits-reads
-use Rattle.memory.proofs.look_up.Reads as look-up-reads
-use Rattle.panelrue_c.proofs.bit.Reads as bit-reads
-use Rattle.panelrue_c.proofs.pack.Reads as pack-reads
-use Rattle.panelrue_c.proofs.tell_look.Reads as tell-look-reads
 
 -- src/lib.rt:158:11
 look-up-requires : tie.Need-look-up-requires

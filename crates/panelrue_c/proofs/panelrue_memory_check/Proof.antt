@@ -1,13 +1,8 @@
-use mathlib.Core.Path.{_≡_, refl, sym, ap, _∙_}
-use native.Mathlib.Omega.{arith}
+use mathlib.Core.Path.{ap, _∙_}
 use Rattle.panelrue_c.specs.Packed.{packed}
 use borrow.Author.Needs.{needs}
 use Rattle.panelrue_c.proofs.panelrue_memory_check.Statement.{statement}
 use Rattle.panelrue_c.proofs.panelrue_memory_check.Tie as tie
-use Rattle.panelrue_c.proofs.panelrue_memory_check.Reads as reads
-use Rattle.panelrue_c.proofs.panelrue_memory_check.Lts as lts
-use Rattle.memory.proofs.check_memory.Reads as check-memory-reads
-use Rattle.panelrue_c.proofs.number.Reads as number-reads
 
 -- src/lib.rt:70:12
 check-memory-requires : tie.Need-check-memory-requires

@@ -1,15 +1,8 @@
-use mathlib.Core.Path.{_≡_, refl, sym, ap, _∙_}
-use native.Mathlib.Omega.{arith}
-use Rattle.panelrue_c.specs.Told.{outcomeNumber, outcomeWord, runNumber, runWords, bitOf, lookNumber, lookWords}
-use Rattle.runs.specs.Replies.{replyOf, SmallReply}
+use mathlib.Core.Path.{sym, _∙_}
+use Rattle.panelrue_c.specs.Told.{runNumber, runWords}
 use borrow.Author.Needs.{needs}
 use Rattle.panelrue_c.proofs.panelrue_run.Statement.{statement}
 use Rattle.panelrue_c.proofs.panelrue_run.Tie as tie
-use Rattle.panelrue_c.proofs.panelrue_run.Reads as reads
-use Rattle.panelrue_c.proofs.panelrue_run.Lts as lts
-use Rattle.panelrue_c.proofs.pack.Reads as pack-reads
-use Rattle.panelrue_c.proofs.tell_run.Reads as tell-run-reads
-use Rattle.runs.proofs.run.Reads as run-reads
 
 -- src/lib.rt:121:11
 run-requires : tie.Need-run-requires

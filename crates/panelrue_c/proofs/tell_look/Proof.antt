@@ -1,11 +1,7 @@
-use mathlib.Core.Path.{_≡_, refl, sym, ap, _∙_}
-use native.Mathlib.Omega.{arith}
 use borrow.Author.Tests.{le-leb, lt-leb}
 use borrow.Author.Needs.{needs}
 use Rattle.panelrue_c.proofs.tell_look.Statement.{statement}
 use Rattle.panelrue_c.proofs.tell_look.Tie as tie
-use Rattle.panelrue_c.proofs.tell_look.Reads as reads
-use Rattle.panelrue_c.proofs.tell_look.Lts as lts
 
 -- src/lib.rt:139:9
 returns : tie.Need-returns

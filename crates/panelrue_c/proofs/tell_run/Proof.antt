@@ -1,15 +1,10 @@
-use mathlib.Core.Path.{_≡_, refl, sym, ap, _∙_}
 use native.Mathlib.Omega.{arith}
-use Rattle.panelrue_c.specs.Told.{outcomeNumber, outcomeWord, runNumber, runWords, bitOf, lookNumber, lookWords}
+use Rattle.panelrue_c.specs.Told.{runWords}
 use lib.ListN.{length-set}
 use borrow.Author.Tests.{le-leb, lt-leb}
 use borrow.Author.Needs.{needs}
 use Rattle.panelrue_c.proofs.tell_run.Statement.{statement}
 use Rattle.panelrue_c.proofs.tell_run.Tie as tie
-use Rattle.panelrue_c.proofs.tell_run.Reads as reads
-use Rattle.panelrue_c.proofs.tell_run.Lts as lts
-use Rattle.panelrue_c.proofs.outcome_number.Reads as outcome-number-reads
-use Rattle.panelrue_c.proofs.outcome_word.Reads as outcome-word-reads
 
 -- src/lib.rt:104:9
 returns : tie.Need-returns

@@ -1,8 +1,5 @@
 use borrow.Author.Needs.{needs}
 use borrow.Author.Tests.{eq-eqb, ne-eqb, le-leb, lt-leb}
-use Prim.Native.Nat.{_/_}
-use lib.ListN.{length}
-use Rattle.records.specs.Fields.{functions}
 use Rattle.places.specs.Located.{placeOf}
 use Rattle.places.proofs.locate.Statement.{statement}
 use Rattle.places.proofs.locate.Tie as tie

@@ -1,4 +1,4 @@
-use mathlib.Core.Path.{refl, sym, _∙_}
+use mathlib.Core.Path.{refl, _∙_}
 use Rattle.summaries.proofs.Parts.{branches-summary}
 use borrow.Author.Needs.{needs}
 use Rattle.rows.proofs.in_branches.Statement.{statement}

@@ -1,4 +1,4 @@
-use mathlib.Core.Path.{sym, ap, _∙_}
+use mathlib.Core.Path.{ap, _∙_}
 use borrow.Author.Tests.{eqb-true, eq-eqb}
 use Rattle.varset.proofs.Laws.{none-is}
 use Rattle.varset.specs.Sets.{has}

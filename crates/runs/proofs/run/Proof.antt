@@ -1,14 +1,9 @@
-use Rattle.acceptance.specs.Answers.{Small}
-use mathlib.Core.Path.{_≡_, refl, sym, ap, _∙_}
+use mathlib.Core.Path.{sym, ap, _∙_}
 use Rattle.acceptance.specs.Answers.{says}
 use Rattle.runs.proofs.Runs.{run-refused, run-held, run-room, run-accepted}
 use borrow.Author.Needs.{needs}
 use Rattle.runs.proofs.run.Statement.{statement}
 use Rattle.runs.proofs.run.Tie as tie
-use Rattle.runs.proofs.run.Reads as reads
-use Rattle.runs.proofs.run.Lts as lts
-use Rattle.machine.proofs.run.Reads as run-reads
-use Rattle.memory.proofs.check_memory.Reads as check-memory-reads
 
 -- src/lib.rt:28:9
 check-memory-requires : tie.Need-check-memory-requires

@@ -1,4 +1,4 @@
-use lib.ListN.{set, length, length-set}
+use lib.ListN.{length, length-set}
 use mathlib.Core.Path.{_≡_, refl}
 use Prim.Native.Nat.{_*_, _-_, _≤_}
 use native.Mathlib.Omega.{arith}

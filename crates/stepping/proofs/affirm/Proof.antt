@@ -1,9 +1,6 @@
-use mathlib.Core.Path.{refl, sym, _∙_}
-use mathlib.Core.List.{_∷_, _++_}
+use mathlib.Core.Path.{refl}
+use mathlib.Core.List.{_∷_}
 use native.Mathlib.Omega.{arith}
-use lib.ListN.{length, length-append}
-use Rattle.image.specs.Image.{savedFrames}
-use Rattle.semantics.specs.Machine.{exception, abort}
 use Rattle.transitions.specs.Comes.{Comes}
 use Rattle.image.specs.Decode.{refOf}
 use Rattle.store.specs.Meaning.{valueIs, controlIs}
@@ -12,11 +9,6 @@ use Rattle.stepping.proofs.Sorts.{truth-only}
 use borrow.Author.Needs.{needs}
 use Rattle.stepping.proofs.affirm.Statement.{statement}
 use Rattle.stepping.proofs.affirm.Tie as tie
-use Rattle.stepping.proofs.affirm.Reads as reads
-use Rattle.stepping.proofs.affirm.Lts as lts
-use Rattle.stepping.proofs.raise.Reads as raise-reads
-use Rattle.stepping.proofs.unreachable.Reads as unreachable-reads
-use Rattle.transitions.proofs.take_off.Reads as take-off-reads
 
 -- src/lib.rt:100:22
 enum-known-v : tie.Need-enum-known-v

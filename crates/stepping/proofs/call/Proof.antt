@@ -1,6 +1,6 @@
-use mathlib.Core.Path.{_≡_, refl, sym, _∙_}
+use mathlib.Core.Path.{sym, _∙_}
 use native.Mathlib.Omega.{arith}
-use Prim.Native.Nat.{_-_, _≤_}
+use Prim.Native.Nat.{_-_}
 use Rattle.semantics.specs.Program.{fn}
 use Rattle.records.specs.Fields.{sizeAt}
 use Rattle.image.proofs.Operands.{waiting-words}
@@ -10,13 +10,6 @@ use Rattle.stepping.proofs.Opens.{none-done, gather-done}
 use borrow.Author.Needs.{needs}
 use Rattle.stepping.proofs.call.Statement.{statement}
 use Rattle.stepping.proofs.call.Tie as tie
-use Rattle.stepping.proofs.call.Reads as reads
-use Rattle.stepping.proofs.call.Lts as lts
-use Rattle.node_records.proofs.a_at.Reads as a-at-reads
-use Rattle.node_records.proofs.b_at.Reads as b-at-reads
-use Rattle.records.proofs.wide.Reads as wide-reads
-use Rattle.calling.proofs.enter_none.Reads as enter-none-reads
-use Rattle.gathering.proofs.gather.Reads as gather-reads
 
 -- src/lib.rt:157:9
 b-at-requires : tie.Need-b-at-requires

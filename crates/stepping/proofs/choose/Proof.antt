@@ -1,13 +1,8 @@
-use mathlib.Core.Path.{refl, sym, _∙_}
 use Rattle.store.specs.Meaning.{valueIs}
 use Rattle.stepping.proofs.Sorts.{truth-only}
 use borrow.Author.Needs.{needs}
 use Rattle.stepping.proofs.choose.Statement.{statement}
 use Rattle.stepping.proofs.choose.Tie as tie
-use Rattle.stepping.proofs.choose.Reads as reads
-use Rattle.stepping.proofs.choose.Lts as lts
-use Rattle.stepping.proofs.unreachable.Reads as unreachable-reads
-use Rattle.transitions.proofs.take_off.Reads as take-off-reads
 
 -- src/lib.rt:85:22
 enum-known-v : tie.Need-enum-known-v

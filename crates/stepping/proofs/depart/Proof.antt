@@ -1,17 +1,10 @@
 use Rattle.stepping.proofs.Leaves.{pos}
-use mathlib.Core.Path.{refl, sym, _∙_}
-use native.Mathlib.Omega.{arith}
 use Rattle.store.specs.Meaning.{valueIs}
 use Rattle.stepping.proofs.Sorts.{int-only}
 use Rattle.stepping.proofs.Leaves.{depart-main, depart-caller}
 use borrow.Author.Needs.{needs}
 use Rattle.stepping.proofs.depart.Statement.{statement}
 use Rattle.stepping.proofs.depart.Tie as tie
-use Rattle.stepping.proofs.depart.Reads as reads
-use Rattle.stepping.proofs.depart.Lts as lts
-use Rattle.stepping.proofs.unreachable.Reads as unreachable-reads
-use Rattle.calling.proofs.leave.Reads as leave-reads
-use Rattle.calling.proofs.leave_main.Reads as leave-main-reads
 
 -- src/lib.rt:118:24
 enum-known-v : tie.Need-enum-known-v

@@ -1,20 +1,15 @@
 use Rattle.semantics.specs.Machine.{reachL}
 use Rattle.semantics.specs.File.{lookAt}
-use mathlib.Core.Path.{_≡_, refl, sym, ap, _∙_}
-use mathlib.Core.List.{_∷_, _++_}
+use mathlib.Core.Path.{_≡_, refl, ap, _∙_}
+use mathlib.Core.List.{_∷_}
 use native.Mathlib.Omega.{arith}
-use Prim.Native.Nat.{ℕ, _+_, _*_, _-_}
+use Prim.Native.Nat.{ℕ, _-_}
 use Rattle.store.specs.Meaning.{frameAt}
 use Rattle.image.proofs.Operands.{read-node}
 use Rattle.transitions.proofs.Steps.{counted-under}
 use borrow.Author.Needs.{needs}
 use Rattle.stepping.proofs.next_operand.Statement.{statement}
 use Rattle.stepping.proofs.next_operand.Tie as tie
-use Rattle.stepping.proofs.next_operand.Reads as reads
-use Rattle.stepping.proofs.next_operand.Lts as lts
-use Rattle.frame_words.proofs.frame_word.Reads as frame-word-reads
-use Rattle.gathering.proofs.reach.Reads as reach-reads
-use Rattle.transitions.proofs.supply.Reads as supply-reads
 
 -- src/lib.rt:46:18
 sub-frames : tie.Need-sub-frames

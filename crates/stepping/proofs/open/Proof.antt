@@ -1,13 +1,11 @@
 use lib.ListN.{length}
-use mathlib.Core.Path.{_≡_, refl, sym, ap, _∙_}
-use mathlib.Core.List.{_∷_, []}
+use mathlib.Core.Path.{refl, sym, _∙_}
 use native.Mathlib.Omega.{arith}
-use Prim.Native.Nat.{ℕ, _-_, _≤_, _<_}
+use Prim.Native.Nat.{_-_, _<_}
 use Rattle.semantics.specs.Program.{op}
 use Rattle.semantics.specs.Machine.{and}
 use Rattle.image.specs.Layout.{frameWords, block}
-use Rattle.records.specs.Fields.{sizeAt, bAt, kindAt}
-use Rattle.store.specs.Meaning.{controlIs}
+use Rattle.records.specs.Fields.{sizeAt}
 use Rattle.image.proofs.Operands.{waiting-words}
 use Rattle.transitions.proofs.Entries.{on-is}
 use Rattle.stepping.proofs.Levels.{some-walk, look-operator, arity-operator, arity-and}
@@ -16,19 +14,6 @@ use Rattle.stepping.proofs.Opens.{variable-done, gather-done, and-done}
 use borrow.Author.Needs.{needs}
 use Rattle.stepping.proofs.open.Statement.{statement}
 use Rattle.stepping.proofs.open.Tie as tie
-use Rattle.stepping.proofs.open.Reads as reads
-use Rattle.stepping.proofs.open.Lts as lts
-use Rattle.callstack.proofs.variable.Reads as variable-reads
-use Rattle.node_records.proofs.a_at.Reads as a-at-reads
-use Rattle.node_records.proofs.b_at.Reads as b-at-reads
-use Rattle.node_records.proofs.kind_at.Reads as kind-at-reads
-use Rattle.node_records.proofs.prior.Reads as prior-reads
-use Rattle.records.proofs.wide.Reads as wide-reads
-use Rattle.stepping.proofs.call.Reads as call-reads
-use Rattle.stepping.proofs.unreachable.Reads as unreachable-reads
-use Rattle.gathering.proofs.gather.Reads as gather-reads
-use Rattle.transitions.proofs.lay.Reads as lay-reads
-use Rattle.gathering.proofs.reach.Reads as reach-reads
 
 -- src/lib.rt:172:9
 kind-at-requires : tie.Need-kind-at-requires

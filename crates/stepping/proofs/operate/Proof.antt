@@ -1,27 +1,15 @@
 use Rattle.stepping.proofs.Operations.{hand, stored, settled-int, settled-truth, settled-arith}
-use mathlib.Core.Path.{_≡_, refl, sym, ap, _∙_}
-use mathlib.Core.List.{[], _∷_, _++_}
+use mathlib.Core.Path.{refl, sym, _∙_}
 use native.Mathlib.Omega.{arith}
-use Prim.Native.Nat.{ℕ, _+_, _*_, _-_}
-use Rattle.semantics.specs.Values as values
-use Rattle.semantics.specs.Program as program
+use Prim.Native.Nat.{_-_}
 use Rattle.semantics.specs.Values.{result}
 use Rattle.store.specs.Meaning.{slotAt, valueIs, controlIs}
-use Rattle.image.specs.Image.{savedFrames}
-use Rattle.image.proofs.Operands.{value-in}
 use Rattle.transitions.specs.Comes.{Comes}
 use Rattle.transitions.proofs.Steps.{counted, counted-under}
-use Rattle.stepping.proofs.Sorts.{int-only, int-words, int-inj}
+use Rattle.stepping.proofs.Sorts.{int-only, int-words}
 use borrow.Author.Needs.{needs}
 use Rattle.stepping.proofs.operate.Statement.{statement}
 use Rattle.stepping.proofs.operate.Tie as tie
-use Rattle.stepping.proofs.operate.Reads as reads
-use Rattle.stepping.proofs.operate.Lts as lts
-use Rattle.arith.proofs.apply.Reads as apply-reads
-use Rattle.stepping.proofs.raise.Reads as raise-reads
-use Rattle.stepping.proofs.unreachable.Reads as unreachable-reads
-use Rattle.frame_words.proofs.slot_value.Reads as slot-value-reads
-use Rattle.transitions.proofs.take_off.Reads as take-off-reads
 
 -- src/lib.rt:66:20
 enum-known-v : tie.Need-enum-known-v

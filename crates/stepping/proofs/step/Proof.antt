@@ -1,19 +1,11 @@
 use borrow.Author.Needs.{needs}
 use mathlib.Core.Logic.{⊎-elim}
-use mathlib.Core.Path.{_≡_, refl, sym, ap, _∙_}
 use native.Mathlib.Omega.{arith}
-use Prim.Native.Nat.{ℕ, _+_, _*_, _-_, _≤_, _<_}
-use Rattle.records.specs.Parts.{partOf}
-use Rattle.semantics.specs.Machine.{val, eval, exec}
-use Rattle.semantics.specs.File.{programOf}
-use Rattle.store.specs.Meaning.{valueIs, controlIs}
-use Rattle.stepping.specs.Done.{Stands}
+use Prim.Native.Nat.{_-_}
+use Rattle.store.specs.Meaning.{controlIs}
 use Rattle.stepping.proofs.Standing.{laid, cut, bounds, evaluates, executes, waiting, nothing-hand, int-hand, truth-hand, stands-val, stands-eval, stands-exec, val-done, eval-done, exec-done}
 use Rattle.stepping.proofs.step.Statement.{statement}
 use Rattle.stepping.proofs.step.Tie as tie
-use Rattle.stepping.proofs.statements.execute.Reads as execute-reads
-use Rattle.stepping.proofs.give.Reads as give-reads
-use Rattle.stepping.proofs.open.Reads as open-reads
 
 mul-e : tie.Need-mul-e
 mul-e c = let b = c .before .before .before in omega (arith, (laid (b .args .file .now) (b .args .starts .now) (controlIs (b .args .c)) (b .args .h) (b .args .m .now) (b .pre .0)) .1)

@@ -1,7 +1,6 @@
 use borrow.Author.Tests.{ne-eqb}
 use Rattle.image.specs.Decode.{controlOf}
 use Rattle.store.specs.Meaning.{controlIs}
-use borrow.Author.Needs.{needs}
 use Rattle.store.proofs.control_of.Statement.{statement}
 use Rattle.store.proofs.control_of.Tie as tie
 

@@ -1,5 +1,5 @@
 use borrow.Author.Needs.{needs}
-use mathlib.Core.Path.{_≡_, sym, ap, _∙_}
+use mathlib.Core.Path.{_≡_, ap, _∙_}
 use Rattle.tables.proofs.Filling.{read-asks, some-size, fits-size, needs-step}
 use Rattle.tables.proofs.Ranges.{range-needs}
 use Rattle.nodefacts.proofs.Parts.{inside}
@@ -9,13 +9,6 @@ use Prim.Native.Nat.{ℕ, _+_, _-_, _≤_}
 use Rattle.tables.specs.Tables.{Range}
 use Rattle.tables.proofs.expression_needs.Statement.{statement}
 use Rattle.tables.proofs.expression_needs.Tie as tie
-use Rattle.tables.proofs.expression_needs.Reads as reads
-use Rattle.tables.proofs.expression_needs.Lts as lts
-use Rattle.node_records.proofs.size_at.Reads as size-at-reads
-use Rattle.records.proofs.minus.Reads as minus-reads
-use Rattle.tables.proofs.needs_at.Reads as needs-at-reads
-use Rattle.tables.proofs.own_read.Reads as own-read-reads
-use Rattle.varset.proofs.VarSet.union.Reads as union-reads
 
 abbrev Inv-loop : tie.InvT-loop
 Inv-loop file f part n table i set₀ end low₀ set low = (end ≤ low) × (low ≤ i) × Range part low (i + 1) (set .0)

@@ -7,9 +7,6 @@ use Prim.Native.Nat.{_-_, _≤_}
 use mathlib.Core.Path.{_≡_, refl, _∙_}
 use Rattle.tables.proofs.fill.Statement.{statement}
 use Rattle.tables.proofs.fill.Tie as tie
-use Rattle.tables.proofs.fill.Reads as reads
-use Rattle.tables.proofs.fill.Lts as lts
-use Rattle.tables.proofs.add_row.Reads as add-row-reads
 
 abbrev Inv-loop : tie.InvT-loop
 Inv-loop file f part n table₀ i₀ table i = (i ≤ n) × (length table ≡ length table₀) × Filled part table i

@@ -2,8 +2,6 @@ use Rattle.tables.specs.Tables.{failsIn, returnsIn}
 use mathlib.Core.Path.{sym}
 use Rattle.tables.proofs.flags_of.Statement.{statement}
 use Rattle.tables.proofs.flags_of.Tie as tie
-use Rattle.tables.proofs.flags_of.Reads as reads
-use Rattle.tables.proofs.flags_of.Lts as lts
 
 -- src/lib.rt:28:9
 returns : tie.Need-returns

@@ -3,8 +3,6 @@ use mathlib.Core.Path.{refl}
 use borrow.Author.Needs.{needs}
 use Rattle.tables.proofs.needs_at.Statement.{statement}
 use Rattle.tables.proofs.needs_at.Tie as tie
-use Rattle.tables.proofs.needs_at.Reads as reads
-use Rattle.tables.proofs.needs_at.Lts as lts
 
 -- src/lib.rt:56:18
 mul-t3 : tie.Need-mul-t3

@@ -1,15 +1,8 @@
-use Rattle.varset.specs.Sets.{with}
 use Rattle.tables.proofs.Ranges.{none-read, one-read}
-use mathlib.Core.Path.{refl, sym, ap, _∙_}
+use mathlib.Core.Path.{sym, _∙_}
 use borrow.Author.Needs.{needs}
 use Rattle.tables.proofs.own_read.Statement.{statement}
 use Rattle.tables.proofs.own_read.Tie as tie
-use Rattle.tables.proofs.own_read.Reads as reads
-use Rattle.tables.proofs.own_read.Lts as lts
-use Rattle.node_records.proofs.b_at.Reads as b-at-reads
-use Rattle.node_records.proofs.kind_at.Reads as kind-at-reads
-use Rattle.varset.proofs.VarSet.empty.Reads as empty-reads
-use Rattle.varset.proofs.VarSet.insert.Reads as insert-reads
 
 -- src/lib.rt:77:8
 kind-at-requires : tie.Need-kind-at-requires

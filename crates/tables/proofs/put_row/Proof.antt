@@ -3,8 +3,6 @@ use lib.ListN.{length-set}
 use borrow.Author.Needs.{needs}
 use Rattle.tables.proofs.put_row.Statement.{statement}
 use Rattle.tables.proofs.put_row.Tie as tie
-use Rattle.tables.proofs.put_row.Reads as reads
-use Rattle.tables.proofs.put_row.Lts as lts
 
 -- src/lib.rt:64:14
 mul-at : tie.Need-mul-at

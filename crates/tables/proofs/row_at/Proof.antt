@@ -3,8 +3,6 @@ use mathlib.Core.Path.{refl}
 use borrow.Author.Needs.{needs}
 use Rattle.tables.proofs.row_at.Statement.{statement}
 use Rattle.tables.proofs.row_at.Tie as tie
-use Rattle.tables.proofs.row_at.Reads as reads
-use Rattle.tables.proofs.row_at.Lts as lts
 
 -- src/lib.rt:39:14
 mul-at : tie.Need-mul-at

@@ -9,20 +9,6 @@ use mathlib.Core.Path.{refl, sym, _∙_}
 use borrow.Author.Needs.{needs}
 use Rattle.tables.proofs.statement_row.Statement.{statement}
 use Rattle.tables.proofs.statement_row.Tie as tie
-use Rattle.tables.proofs.statement_row.Reads as reads
-use Rattle.tables.proofs.statement_row.Lts as lts
-use Rattle.node_records.proofs.b_at.Reads as b-at-reads
-use Rattle.node_records.proofs.kind_at.Reads as kind-at-reads
-use Rattle.node_records.proofs.prior.Reads as prior-reads
-use Rattle.rows.proofs.in_branches.Reads as in-branches-reads
-use Rattle.rows.proofs.in_loop.Reads as in-loop-reads
-use Rattle.rows.proofs.in_scope.Reads as in-scope-reads
-use Rattle.rows.proofs.in_sequence.Reads as in-sequence-reads
-use Rattle.rows.proofs.plain.Reads as plain-reads
-use Rattle.tables.proofs.needs_at.Reads as needs-at-reads
-use Rattle.tables.proofs.row_at.Reads as row-at-reads
-use Rattle.varset.proofs.VarSet.empty.Reads as empty-reads
-use Rattle.varset.proofs.VarSet.insert.Reads as insert-reads
 
 -- src/lib.rt:108:9
 kind-at-requires : tie.Need-kind-at-requires

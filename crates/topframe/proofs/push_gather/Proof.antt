@@ -1,7 +1,7 @@
 use Rattle.image.proofs.Frames.{push-frame}
-use mathlib.Core.Path.{_≡_, refl, sym, _∙_}
+use mathlib.Core.Path.{_≡_, refl, _∙_}
 use mathlib.Core.List.{List, [], _∷_, _++_}
-use Prim.Native.Nat.{ℕ, _+_, _*_, _-_, _≤_, _<_}
+use Prim.Native.Nat.{ℕ, _+_, _-_, _≤_, _<_}
 use lib.ListN.{length, replicate, length-set}
 use native.Mathlib.Omega.{arith}
 use borrow.Author.Needs.{needs}
@@ -10,16 +10,11 @@ use Rattle.records.specs.Fields.{sizeAt}
 use Rattle.semantics.specs.Values.{Value}
 use Rattle.semantics.specs.Program.{Head}
 use Rattle.semantics.specs.Machine.{Frame, gather, Saved}
-use Rattle.image.specs.Layout.{filled, frameWords}
 use Rattle.image.specs.Image.{savedFrames}
 use Rattle.image.specs.Core.{core}
 use Rattle.topframe.proofs.Waits.{Stored, stored-none, store-more, store-done}
 use Rattle.topframe.proofs.push_gather.Statement.{statement}
 use Rattle.topframe.proofs.push_gather.Tie as tie
-use Rattle.topframe.proofs.push_gather.Reads as reads
-use Rattle.topframe.proofs.push_gather.Lts as lts
-use Rattle.node_records.proofs.prior.Reads as prior-reads
-use Rattle.frame_words.proofs.put_frame.Reads as put-frame-reads
 
 abbrev Inv-loop : tie.InvT-loop
 Inv-loop m₀ part n kind x k last j₀ c₀ m j c =

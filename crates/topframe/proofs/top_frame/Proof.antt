@@ -1,11 +1,9 @@
-use mathlib.Core.Path.{_≡_, sym, _∙_}
+use mathlib.Core.Path.{_∙_}
 use Rattle.topframe.specs.Shows.{Shows}
-use Rattle.topframe.proofs.Views.{Seen, seen, said, is-operator, is-call, last-view}
+use Rattle.topframe.proofs.Views.{seen, said, is-operator, is-call, last-view}
 use borrow.Author.Needs.{needs}
 use Rattle.topframe.proofs.top_frame.Statement.{statement}
 use Rattle.topframe.proofs.top_frame.Tie as tie
-use Rattle.topframe.proofs.top_frame.Reads as reads
-use Rattle.topframe.proofs.top_frame.Lts as lts
 
 -- src/lib.rt:37:21
 mul-at : tie.Need-mul-at

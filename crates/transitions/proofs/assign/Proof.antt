@@ -1,19 +1,13 @@
 use Rattle.semantics.specs.Program.{Ref}
 use Rattle.semantics.specs.Machine.{exec, calm}
 use Rattle.transitions.proofs.Steps.{rebased, within-yes}
-use mathlib.Core.Path.{refl, _∙_, sym}
 use mathlib.Core.List.{_∷_}
 use native.Mathlib.Omega.{arith}
-use Rattle.transitions.proofs.Steps.{counted, counted-under, on, moved, full}
 use Rattle.image.specs.Decode.{refOf}
 use Rattle.store.specs.Meaning.{controlIs}
 use borrow.Author.Needs.{needs}
 use Rattle.transitions.proofs.assign.Statement.{statement}
 use Rattle.transitions.proofs.assign.Tie as tie
-use Rattle.transitions.proofs.assign.Reads as reads
-use Rattle.transitions.proofs.assign.Lts as lts
-use Rattle.callstack.proofs.set_variable.Reads as set-variable-reads
-use Rattle.transitions.proofs.take_off.Reads as take-off-reads
 
 -- src/lib.rt:99:5
 set-variable-requires : tie.Need-set-variable-requires

@@ -1,13 +1,9 @@
-use mathlib.Core.Path.{refl, _∙_, sym}
 use mathlib.Core.List.{_∷_}
 use native.Mathlib.Omega.{arith}
-use Rattle.transitions.proofs.Steps.{counted, counted-under, on, moved, full}
+use Rattle.transitions.proofs.Steps.{counted, on, moved, full}
 use borrow.Author.Needs.{needs}
 use Rattle.transitions.proofs.lay.Statement.{statement}
 use Rattle.transitions.proofs.lay.Tie as tie
-use Rattle.transitions.proofs.lay.Reads as reads
-use Rattle.transitions.proofs.lay.Lts as lts
-use Rattle.callstack.proofs.push.Reads as push-reads
 
 -- src/lib.rt:47:13
 add-n : tie.Need-add-n

@@ -1,13 +1,7 @@
-use mathlib.Core.Path.{refl, _∙_, sym}
-use mathlib.Core.List.{_∷_}
-use native.Mathlib.Omega.{arith}
-use Rattle.transitions.proofs.Steps.{counted, counted-under, on, moved, full}
+use Rattle.transitions.proofs.Steps.{on}
 use borrow.Author.Needs.{needs}
 use Rattle.transitions.proofs.put.Statement.{statement}
 use Rattle.transitions.proofs.put.Tie as tie
-use Rattle.transitions.proofs.put.Reads as reads
-use Rattle.transitions.proofs.put.Lts as lts
-use Rattle.callstack.proofs.set_variable.Reads as set-variable-reads
 
 -- src/lib.rt:90:5
 set-variable-requires : tie.Need-set-variable-requires

@@ -1,13 +1,8 @@
-use mathlib.Core.Path.{refl, _∙_, sym}
-use mathlib.Core.List.{_∷_}
 use native.Mathlib.Omega.{arith}
-use Rattle.transitions.proofs.Steps.{counted, counted-under, on, moved, full}
+use Rattle.transitions.proofs.Steps.{counted-under, on}
 use borrow.Author.Needs.{needs}
 use Rattle.transitions.proofs.supply.Statement.{statement}
 use Rattle.transitions.proofs.supply.Tie as tie
-use Rattle.transitions.proofs.supply.Reads as reads
-use Rattle.transitions.proofs.supply.Lts as lts
-use Rattle.callstack.proofs.gain.Reads as gain-reads
 
 -- src/lib.rt:108:18
 sub-frames : tie.Need-sub-frames

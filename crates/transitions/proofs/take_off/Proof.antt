@@ -1,13 +1,8 @@
-use mathlib.Core.Path.{refl, _∙_, sym}
-use mathlib.Core.List.{_∷_}
 use native.Mathlib.Omega.{arith}
-use Rattle.transitions.proofs.Steps.{counted, counted-under, on, moved, full}
+use Rattle.transitions.proofs.Steps.{counted-under, on, moved}
 use borrow.Author.Needs.{needs}
 use Rattle.transitions.proofs.take_off.Statement.{statement}
 use Rattle.transitions.proofs.take_off.Tie as tie
-use Rattle.transitions.proofs.take_off.Reads as reads
-use Rattle.transitions.proofs.take_off.Lts as lts
-use Rattle.callstack.proofs.pop.Reads as pop-reads
 
 -- src/lib.rt:70:18
 sub-frames : tie.Need-sub-frames

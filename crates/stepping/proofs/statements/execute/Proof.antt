@@ -1,16 +1,10 @@
 use borrow.Author.Needs.{needs}
-use mathlib.Core.Path.{_≡_, refl, sym, ap, _∙_}
 use native.Mathlib.Omega.{arith}
 use Rattle.image.specs.Decode.{refOf}
 use Rattle.store.proofs.Refs.{ref-node, ref-if, ref-seq}
-use Rattle.semantics.specs.File.{seeAt}
-use Rattle.stepping.specs.Done.{Executes}
 use Rattle.stepping.proofs.Executions.{ref-nop, executes-node, executes-if, executes-seq, nop-done, node-done, if-done, seq-done}
 use Rattle.stepping.proofs.statements.execute.Statement.{statement}
 use Rattle.stepping.proofs.statements.execute.Tie as tie
-use Rattle.stepping.proofs.statements.execute_loop.Reads as execute-loop-reads
-use Rattle.stepping.proofs.statements.execute_node.Reads as execute-node-reads
-use Rattle.stepping.proofs.statements.resume.Reads as resume-reads
 
 resume-requires : tie.Need-resume-requires
 resume-requires c κs = let q = c .before .before .before .before .pre in (q .0 .0, q .1 (ref-nop _ (c .before .if1 .taken)))

@@ -1,4 +1,4 @@
-use mathlib.Core.Path.{_≡_, refl, sym, ap, _∙_}
+use mathlib.Core.Path.{refl}
 use Rattle.semantics.specs.Program.{Ref, node, seqOf}
 use Rattle.semantics.specs.Machine.{wait, branch}
 use Rattle.semantics.specs.File.{programOf}
@@ -8,11 +8,6 @@ use Rattle.stepping.proofs.Loops.{see-if, see-seq}
 use borrow.Author.Needs.{needs}
 use Rattle.stepping.proofs.statements.execute_loop.Statement.{statement}
 use Rattle.stepping.proofs.statements.execute_loop.Tie as tie
-use Rattle.stepping.proofs.statements.execute_loop.Reads as reads
-use Rattle.stepping.proofs.statements.execute_loop.Lts as lts
-use Rattle.node_records.proofs.prior.Reads as prior-reads
-use Rattle.transitions.proofs.lay.Reads as lay-reads
-use Rattle.gathering.proofs.reach.Reads as reach-reads
 
 -- src/lib.rt:246:16
 sub-last : tie.Need-sub-last

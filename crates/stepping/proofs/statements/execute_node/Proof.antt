@@ -1,14 +1,12 @@
 use mathlib.Core.Logic.{⊎-elim}
-use mathlib.Core.Path.{_≡_, refl, sym, ap, _∙_}
-use mathlib.Core.List.{_∷_, []}
+use mathlib.Core.Path.{refl, sym, ap, _∙_}
 use native.Mathlib.Omega.{arith}
-use Prim.Native.Nat.{ℕ, _-_, _≤_, _<_}
+use Prim.Native.Nat.{_-_, _<_}
 use lib.ListN.{length}
 use Rattle.semantics.specs.Program.{ifOf}
 use Rattle.semantics.specs.Machine.{Frame, wait, branch, exec}
 use Rattle.semantics.specs.File.{refAt, programOf}
 use Rattle.image.specs.Layout.{refWord, frameWords, block}
-use Rattle.records.specs.Fields.{sizeAt, bAt, kindAt}
 use Rattle.store.specs.Meaning.{valueIs, controlIs}
 use Rattle.image.proofs.Parts.{ref-back}
 use Rattle.transitions.proofs.Entries.{on-is}
@@ -17,17 +15,6 @@ use Rattle.stepping.proofs.Forms.{form-seq, form-assign, form-decl, for
 use borrow.Author.Needs.{needs}
 use Rattle.stepping.proofs.statements.execute_node.Statement.{statement}
 use Rattle.stepping.proofs.statements.execute_node.Tie as tie
-use Rattle.stepping.proofs.statements.execute_node.Reads as reads
-use Rattle.stepping.proofs.statements.execute_node.Lts as lts
-use Rattle.node_records.proofs.b_at.Reads as b-at-reads
-use Rattle.node_records.proofs.kind_at.Reads as kind-at-reads
-use Rattle.node_records.proofs.prior.Reads as prior-reads
-use Rattle.records.proofs.wide.Reads as wide-reads
-use Rattle.stepping.proofs.statements.ref_word_at.Reads as ref-word-at-reads
-use Rattle.stepping.proofs.unreachable.Reads as unreachable-reads
-use Rattle.transitions.proofs.lay.Reads as lay-reads
-use Rattle.transitions.proofs.put.Reads as put-reads
-use Rattle.gathering.proofs.reach.Reads as reach-reads
 
 -- src/lib.rt:218:16
 sub-last : tie.Need-sub-last

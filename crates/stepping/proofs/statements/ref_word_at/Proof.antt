@@ -8,9 +8,6 @@ use Rattle.semantics.specs.File.{refAt}
 use borrow.Author.Needs.{needs}
 use Rattle.stepping.proofs.statements.ref_word_at.Statement.{statement}
 use Rattle.stepping.proofs.statements.ref_word_at.Tie as tie
-use Rattle.stepping.proofs.statements.ref_word_at.Reads as reads
-use Rattle.stepping.proofs.statements.ref_word_at.Lts as lts
-use Rattle.node_records.proofs.kind_at.Reads as kind-at-reads
 
 -- src/lib.rt:145:8
 kind-at-requires : tie.Need-kind-at-requires
