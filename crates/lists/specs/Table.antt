@@ -10,7 +10,7 @@ use Rattle.semantics.specs.Run.{Outcome, raised}
 use Rattle.semantics.specs.Run as run
 use Rattle.calls.specs.Answers.{Told, told, turned, startMemory, runAnswer}
 
--- an outcome with the steps taken, its int signed, or a refusal by number, place and item
+-- an outcome with the steps taken, its int signed (`negsuc n` is −(n + 1)), or a refusal by number, place and item
 pub data Answer : Type 0 where
   value : ℤ → ℕ → Answer
   arith abort Spent Full : ℕ → Answer

@@ -15,8 +15,13 @@ pub const DIV: u8 = 3;
 pub const REM: u8 = 4;
 pub const SHL: u8 = 5;
 pub const SHR: u8 = 6;
+pub const XOR: u8 = 9;
 pub const LT: u8 = 10;
+pub const LE: u8 = 11;
+pub const GT: u8 = 12;
+pub const GE: u8 = 13;
 pub const EQ: u8 = 14;
+pub const NE: u8 = 15;
 
 /// An expression, or a statement put where one belongs.
 #[derive(Clone)]

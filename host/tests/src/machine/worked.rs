@@ -105,8 +105,37 @@ fn procedure() -> File {
     file(&[function(INT, 0, body), function(NOTHING, 0, ret(nothing()))])
 }
 
+/// `if(a ⊙ b, return 1, return 2)`, which takes nine steps.
+fn compared(name: &'static str, o: u8, a: i32, b: i32, holds: bool) -> Row {
+    let body = if_else(op(o, int(a), int(b)), ret(int(1)), ret(int(2)));
+    row(name, main(0, body), Value(if holds { 1 } else { 2 }), 9)
+}
+
+/// Comparisons of ints, which are signed.
+fn comparisons() -> Vec<Row> {
+    vec![
+        compared("2^31−1 < −2^31", LT, i32::MAX, i32::MIN, false),
+        compared("−1 < 0", LT, -1, 0, true),
+        compared("−1 <= −1", LE, -1, -1, true),
+        compared("0 <= −1", LE, 0, -1, false),
+        compared("0 > −1", GT, 0, -1, true),
+        compared("−2^31 > 2^31−1", GT, i32::MIN, i32::MAX, false),
+        compared("−1 >= 0", GE, -1, 0, false),
+        compared("−2^31 >= −2^31", GE, i32::MIN, i32::MIN, true),
+        compared("−1 == −1", EQ, -1, -1, true),
+        compared("−1 == 2^31−1", EQ, -1, i32::MAX, false),
+        compared("0 != −2^31", NE, 0, i32::MIN, true),
+        compared("7 != 7", NE, 7, 7, false),
+    ]
+}
+
 /// More runs.
 pub fn more() -> Vec<Row> {
+    others().into_iter().chain(comparisons()).collect()
+}
+
+/// Operators at their limits, and runs of every kind.
+fn others() -> Vec<Row> {
     let allowed = |name, file, allowance, expected| Row { name, file, allowance, expected };
     vec![
         operator("return 65536×65536", MUL, 65_536, 65_536, 0),
@@ -118,7 +147,14 @@ pub fn more() -> Vec<Row> {
         operator("return 5%−1", REM, 5, -1, 0),
         operator("return 1<<−1", SHL, 1, -1, i32::MIN),
         operator("return −8>>−31", SHR, -8, -31, -4),
-        operator("return −1^(2^31−1)", 9, -1, i32::MAX, i32::MIN),
+        operator("return 1<<32", SHL, 1, 32, 1),
+        operator("return 1<<−32", SHL, 1, -32, 1),
+        operator("return 1<<−2^31", SHL, 1, i32::MIN, 1),
+        operator("return −2^31>>31", SHR, i32::MIN, 31, -1),
+        operator("return −7%−2", REM, -7, -2, -1),
+        operator("return −2^31/1", DIV, i32::MIN, 1, i32::MIN),
+        operator("return 0−−2^31", SUB, 0, i32::MIN, i32::MIN),
+        operator("return −1^(2^31−1)", XOR, -1, i32::MAX, i32::MIN),
         row("return −2^31/−1", main(0, ret(op(DIV, int(i32::MIN), int(-1)))), Arith, 5),
         row("a loop that declares again", declares_again(), Value(2), 69),
         row("512 seqs nested left", nested_seqs(512), Value(0), 1_028),
