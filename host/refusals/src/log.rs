@@ -25,6 +25,9 @@ pub fn law_objection(log: &str, laws: &[Law], folder: &Path) -> Option<String> {
     if laws.is_empty() {
         return Some("it names no law that it breaks".to_string());
     }
+    if let Some(line) = log.lines().find(|line| is_error(line) && in_specs(line)) {
+        return Some(format!("it is no definition: {}", short(line)));
+    }
     laws.iter().find(|law| !breaks(log, law, folder)).map(|law| {
         format!("{} {} does not break by itself on a line with `{}`", law.file, law.name, law.words)
     })
@@ -81,6 +84,11 @@ fn verdict<'a>(log: &'a str, function: &str) -> Option<&'a str> {
 /// Whether a line begins an error.
 fn is_error(line: &str) -> bool {
     line.contains(": error: ")
+}
+
+/// Whether an error stands in a definition.
+fn in_specs(line: &str) -> bool {
+    line.split(": error: ").next().is_some_and(|place| place.contains("/specs/"))
 }
 
 /// Whether an error stands in a function's proof, alone or in a cycle of calls.
@@ -141,6 +149,13 @@ mod tests {
     fn a_misfit_does_not_count() {
         let log = "/t/proofs/Keep.antt:3:5: error: `keep`: record `R` has no field `x`";
         assert!(objected("misfit", "and-false", log));
+    }
+
+    #[test]
+    fn a_definition_that_is_not_admitted_does_not_count() {
+        let log = "/t/specs/Fit.antt:3:5: error: `Fit`: `tInt` is not in scope\n\
+                   /t/proofs/Keep.antt:3:5: error: `keep`: 1 ≟ 2";
+        assert!(objected("specs", "and-false", log));
     }
 
     #[test]
