@@ -10,38 +10,6 @@ use Rattle.semantics.specs.Program.{op, fn, Look, const, apply, Form, Pr
 use Rattle.semantics.specs.Machine.{Frame, gather, and, wait, branch, check, val, eval, exec, State, exception, main, returned, running, Rule, Event, quiet, reads, has, lacks, enters, leaves, ends, Step, first, enter, op-value, op-arith, and-first, and-false, and-true, call-none, call-main, assert-true, assert-false, if-true, if-false, leave-main}
 use Rattle.semantics.specs.Next.{goes, next}
 
--- a step is the next state of the function
-pub sound : {P : Program} {r : Rule} {v : Event} {s t : State} → Step P r v s t → next P s ≡ goes r t
-sound (first e) = rw e
-sound Step.next = refl
-sound (op-value e) = rw e
-sound (op-arith e) = rw e
-sound (and-first e) = rw e
-sound and-false = refl
-sound and-true = refl
-sound (Step.var e) = rw e
-sound (Step.seq e) = rw e
-sound (Step.nop e) = rw e
-sound (Step.assign e) = rw e
-sound Step.store = refl
-sound (Step.decl e) = rw e
-sound (Step.assert e) = rw e
-sound assert-true = refl
-sound assert-false = refl
-sound (Step.if e) = rw e
-sound if-true = refl
-sound if-false = refl
-sound (Step.while e) = rw e
-sound (Step.expr e) = rw e
-sound Step.discard = refl
-sound enter = refl
-sound (call-none e) = rw e
-sound call-main = refl
-sound (Step.return e) = rw e
-sound Step.leave = refl
-sound leave-main = refl
-sound Step.value = refl
-
 -- ---- the event of the rule that applies at a state
 
 -- of a function's entry
@@ -115,42 +83,46 @@ eventOf P (running (val v) α f η K A) = giving P v K
 eventOf P (running (eval n) α f η K A) = opening P (P .look f n)
 eventOf P (running (exec r) α f η K A) = executing (P .see f r)
 
-tells : {P : Program} {r : Rule} {v : Event} {s t : State} → Step P r v s t → v ≡ eventOf P s
-tells (first {h = op o} e) = rw e
-tells (first {h = fn g} e) = rw e
-tells (Step.next {h = op o}) = refl
-tells (Step.next {h = fn g}) = refl
-tells (op-value e) = rw e
-tells (op-arith e) = rw e
-tells (and-first e) = rw e
-tells and-false = refl
-tells and-true = refl
-tells (Step.var e) = rw e
-tells (Step.seq e) = rw e
-tells (Step.nop e) = rw e
-tells (Step.assign e) = rw e
-tells Step.store = refl
-tells (Step.decl e) = rw e
-tells (Step.assert e) = rw e
-tells assert-true = refl
-tells assert-false = refl
-tells (Step.if e) = rw e
-tells if-true = refl
-tells if-false = refl
-tells (Step.while e) = rw e
-tells (Step.expr e) = rw e
-tells Step.discard = refl
-tells enter = refl
-tells (call-none e) = rw e
-tells call-main = refl
-tells (Step.return e) = rw e
-tells Step.leave = refl
-tells leave-main = refl
-tells Step.value = refl
+-- a step is the next state of the function, with the event of the rule that applies
+goes-on : {P : Program} {r : Rule} {v : Event} {s t : State} → Step P r v s t → (next P s ≡ goes r t) × (v ≡ eventOf P s)
+goes-on (first {h = op o} e) = (rw e, rw e)
+goes-on (first {h = fn g} e) = (rw e, rw e)
+goes-on (Step.next {h = op o}) = (refl, refl)
+goes-on (Step.next {h = fn g}) = (refl, refl)
+goes-on (op-value e) = (rw e, rw e)
+goes-on (op-arith e) = (rw e, rw e)
+goes-on (and-first e) = (rw e, rw e)
+goes-on and-false = (refl, refl)
+goes-on and-true = (refl, refl)
+goes-on (Step.var e) = (rw e, rw e)
+goes-on (Step.seq e) = (rw e, rw e)
+goes-on (Step.nop e) = (rw e, rw e)
+goes-on (Step.assign e) = (rw e, rw e)
+goes-on Step.store = (refl, refl)
+goes-on (Step.decl e) = (rw e, rw e)
+goes-on (Step.assert e) = (rw e, rw e)
+goes-on assert-true = (refl, refl)
+goes-on assert-false = (refl, refl)
+goes-on (Step.if e) = (rw e, rw e)
+goes-on if-true = (refl, refl)
+goes-on if-false = (refl, refl)
+goes-on (Step.while e) = (rw e, rw e)
+goes-on (Step.expr e) = (rw e, rw e)
+goes-on Step.discard = (refl, refl)
+goes-on enter = (refl, refl)
+goes-on (call-none e) = (rw e, rw e)
+goes-on call-main = (refl, refl)
+goes-on (Step.return e) = (rw e, rw e)
+goes-on Step.leave = (refl, refl)
+goes-on leave-main = (refl, refl)
+goes-on Step.value = (refl, refl)
+
+pub sound : {P : Program} {r : Rule} {v : Event} {s t : State} → Step P r v s t → next P s ≡ goes r t
+sound a = goes-on a .0
 
 -- two steps from one state are of one rule, with one event, and to one state
 pub one-rule : {P : Program} {r q : Rule} {v w : Event} {s t u : State} → Step P r v s t → Step P q w s u → (r ≡ q) × (v ≡ w) × (t ≡ u)
 one-rule a b =
     let e = sound a in
     let f = sound b in
-    (cc, tells a ∙ sym (tells b), cc)
+    (cc, goes-on a .1 ∙ sym (goes-on b .1), cc)
