@@ -1,8 +1,8 @@
 // Runs the procedure on standard input for 10,000 steps in a memory of its own, and prints one line: the outcome, or the refusal.
-use acceptance::Answer;
-use machine::Outcome;
-use machine::Ran;
-use runs::Reply;
+use check_file::Answer;
+use entry_run::Reply;
+use run_loop::Outcome;
+use run_loop::Ran;
 use texts::put;
 use texts::put_decimal;
 use texts::put_numbered;
@@ -58,10 +58,10 @@ fn put_run(file: &[u8], out: &mut [u8]) -> usize {
         question,
         place,
         item,
-    } = calls::start(file, &mut memory) {
+    } = entry_start::start(file, &mut memory) {
         return put_refusal(out, 0, question, place, item);
     }
-    match runs::run(file, &mut memory, 10000) {
+    match entry_run::run(file, &mut memory, 10000) {
         Reply::Ended(ran) => put_end(out, ran),
         Reply::Refused {
             question,

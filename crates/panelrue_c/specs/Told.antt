@@ -7,12 +7,12 @@ use lib.ListN.{length}
 use Rattle.varset.specs.Lowest.{pick}
 use Rattle.words.specs.Blocks.{puts}
 use Rattle.arith.specs.Int.{wrap}
-use Rattle.machine.specs.declared.Outcome.{Outcome}
-use Rattle.machine.specs.declared.Outcome.the-variants.{Value, Arith, Abort, Spent, Full}
-use Rattle.runs.specs.declared.Reply.{Reply}
-use Rattle.runs.specs.declared.Reply.the-variants as reply
-use Rattle.memory.specs.declared.Look.{Look}
-use Rattle.memory.specs.declared.Look.the-variants as look
+use Rattle.run_loop.specs.declared.Outcome.{Outcome}
+use Rattle.run_loop.specs.declared.Outcome.the-variants.{Value, Arith, Abort, Spent, Full}
+use Rattle.entry_run.specs.declared.Reply.{Reply}
+use Rattle.entry_run.specs.declared.Reply.the-variants as reply
+use Rattle.entry_memory.specs.declared.Look.{Look}
+use Rattle.entry_memory.specs.declared.Look.the-variants as look
 
 -- the number of an outcome, and the word of its int
 unfoldable pub outcomeNumber : Outcome → ℕ

@@ -1,17 +1,17 @@
 // The entry points for a host in C or Rust, on numbers and slices.
-use acceptance::Answer;
-use machine::Outcome;
-use machine::Ran;
-use memory::Look;
-use runs::Reply;
+use check_file::Answer;
+use entry_memory::Look;
+use entry_run::Reply;
+use run_loop::Outcome;
+use run_loop::Ran;
 ghost use mathlib.Core.Path.{_≡_};
 ghost use mathlib.Core.List.{[], _∷_};
 ghost use Prim.Native.Nat.{_+_, _*_, _<_};
-ghost use Rattle.language.specs.Check.{checkOf};
-ghost use Rattle.acceptance.specs.Answers.{says, Small};
-ghost use Rattle.calls.specs.Answers.{startAnswer, startMemory, memoryAnswer, runAnswer, runMemory, lookAnswer};
-ghost use Rattle.runs.specs.Replies.{replyOf};
-ghost use Rattle.memory.specs.Looks.{lookOf};
+ghost use Rattle.spec_language.specs.Check.{checkOf};
+ghost use Rattle.check_file.specs.Answers.{says, Small};
+ghost use Rattle.spec_answers.specs.Answers.{startAnswer, startMemory, memoryAnswer, runAnswer, runMemory, lookAnswer};
+ghost use Rattle.entry_run.specs.Replies.{replyOf};
+ghost use Rattle.entry_memory.specs.Looks.{lookOf};
 ghost use Rattle.words.specs.Blocks.{puts};
 ghost use Rattle.varset.specs.Lowest.{pick};
 ghost use lib.Dec.{leb};
@@ -50,7 +50,7 @@ fn number(answer: Answer) -> u64
 pub extern "C" fn panelrue_check(file: &[u8]) -> u64
     ensures { λ r. ⌜ r ≡ packed (checkOf (now (file .entry))) ⌝ }
 {
-    number(acceptance::check(file))
+    number(check_file::check(file))
 }
 
 // Starts the file's procedure in the memory, where 0 is answered; a refusal leaves the memory as it was.
@@ -59,7 +59,7 @@ pub extern "C" fn panelrue_start(file: &[u8], memory: &mut [u32]) -> u64
     ensures answer { λ r. ⌜ r ≡ packed (startAnswer (now (file .entry)) (now (memory .entry))) ⌝ }
     ensures memory { λ r. ⌜ now (memory .exit) ≡ startMemory (now (file .entry)) (now (memory .entry)) ⌝ }
 {
-    number(calls::start(file, memory))
+    number(entry_start::start(file, memory))
 }
 
 // 0 where the memory holds the image of a fit state of the file's procedure.
@@ -67,7 +67,7 @@ pub extern "C" fn panelrue_start(file: &[u8], memory: &mut [u32]) -> u64
 pub extern "C" fn panelrue_memory_check(file: &[u8], memory: &[u32]) -> u64
     ensures { λ r. ⌜ r ≡ packed (memoryAnswer (now (file .entry)) (now (memory .entry))) ⌝ }
 {
-    number(memory::check_memory(file, memory))
+    number(entry_memory::check_memory(file, memory))
 }
 
 // The number of an outcome.
@@ -123,7 +123,7 @@ pub extern "C" fn panelrue_run(
     ensures memory { λ r. ⌜ now (memory .exit) ≡ runMemory (now (file .entry)) (now (memory .entry)) allowance ⌝ }
     ensures told { λ r. ⌜ now (answer .exit) ≡ runWords (replyOf (runAnswer (now (file .entry)) (now (memory .entry)) allowance)) (now (answer .entry)) ⌝ }
 {
-    match runs::run(file, memory, allowance) {
+    match entry_run::run(file, memory, allowance) {
         Reply::Ended(r) => {
             tell_run(answer, r);
             0
@@ -160,7 +160,7 @@ pub extern "C" fn panelrue_look_up(file: &[u8], memory: &[u32], x: u32, answer: 
     ensures number { λ r. ⌜ r ≡ lookNumber (lookOf (lookAnswer (now (file .entry)) (now (memory .entry)) x)) ⌝ }
     ensures told { λ r. ⌜ now (answer .exit) ≡ lookWords (lookOf (lookAnswer (now (file .entry)) (now (memory .entry)) x)) (now (answer .entry)) ⌝ }
 {
-    match memory::look_up(file, memory, x) {
+    match entry_memory::look_up(file, memory, x) {
         Look::Nothing => {
             tell_look(answer, 0, 0);
             0

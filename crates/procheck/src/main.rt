@@ -1,9 +1,9 @@
 // Checks the procedure on standard input, and prints one line: passed, or the refusal.
-use acceptance::Answer;
+use check_file::Answer;
 
 // Puts the answer to a file.
 fn put_answer(file: &[u8], out: &mut [u8]) -> usize {
-    match acceptance::check(file) {
+    match check_file::check(file) {
         Answer::Accepted => texts::put(out, 0, b"passed\n"),
         Answer::Refused {
             question,

@@ -6,3 +6,4 @@ pub mod Parts
 pub mod Tables
 pub mod Masks
 pub mod Children
+pub mod StartTables

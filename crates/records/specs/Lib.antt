@@ -4,3 +4,4 @@ pub mod Parts
 pub mod Search
 pub mod Children
 pub mod Build
+pub mod Starts

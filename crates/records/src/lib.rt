@@ -1,4 +1,7 @@
 // The records of a procedure file: numbers in bytes, fields, and where a node's children stand.
+pub mod nodes;
+pub mod starts;
+
 ghost use mathlib.Core.Path.{_≡_};
 ghost use Prim.Native.Nat.{ℕ, _+_, _*_, _-_, _≤_, _<_};
 ghost use lib.ListN.{length};

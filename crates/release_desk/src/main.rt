@@ -1,6 +1,6 @@
 // Checks procedures by name and prints one line for each: passed, refused with the reason, or why it cannot be read; last the counts.
-use acceptance::Answer;
-use reading::Content;
+use check_file::Answer;
+use desk_files::Content;
 use std::num::wrapping_add_u64;
 use texts::put;
 use texts::put_numbered;
@@ -49,7 +49,7 @@ fn put_refusal(
     let b = put_numbered(out, a, b" place ", place as u64);
     let c = put_numbered(out, b, b" item ", item as u64);
     let d = put(out, c, b": ");
-    let e = sentences::put_sentence(file, question, place, item, out, d);
+    let e = desk_sentences::put_sentence(file, question, place, item, out, d);
     put(out, e, b"\n")
 }
 
@@ -72,12 +72,12 @@ fn put_look(
             b"    no function is shown: the records of this file do not make one\n",
         );
     }
-    listings::put_listing(file, place, out, at)
+    desk_listing::put_listing(file, place, out, at)
 }
 
 // Puts the rest of the line of a file that was read, and counts it.
 fn serve_content(file: &[u8], out: &mut [u8], desk: Desk) -> Desk {
-    match acceptance::check(file) {
+    match check_file::check(file) {
         Answer::Accepted => counted(desk, put(out, desk.at, b": passed\n"), 1, 0, 0),
         Answer::Refused {
             question,
@@ -94,19 +94,19 @@ fn serve_content(file: &[u8], out: &mut [u8], desk: Desk) -> Desk {
 // Puts the rest of the line of a file that cannot be read, and counts it.
 fn serve_error(error: i32, out: &mut [u8], desk: Desk) -> Desk {
     let a = put(out, desk.at, b": cannot be read: ");
-    let b = reading::put_error(out, a, error);
+    let b = desk_files::put_error(out, a, error);
     counted(desk, put(out, b, b"\n"), 0, 0, 1)
 }
 
 // Puts a name at the start of a line.
 fn put_name(name: &mut [u8], out: &mut [u8], desk: Desk) -> Desk {
-    reading::make_plain(name);
+    desk_files::make_plain(name);
     counted(desk, put(out, desk.at, name), 0, 0, 0)
 }
 
 // Serves one file: reads it, checks it and puts its line.
 fn serve(name: &mut [u8], file: &mut [u8], out: &mut [u8], desk: Desk) -> Desk {
-    let content = reading::content_of(name, file);
+    let content = desk_files::content_of(name, file);
     let named = put_name(name, out, desk);
     match content {
         Content::Failed(error) => serve_error(error, out, named),

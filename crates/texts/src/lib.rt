@@ -1,6 +1,8 @@
 // Text for standard output, gathered in a lent buffer that is written out whenever it is full.
 //
 // A position counts the bytes that wait at the start of the buffer.
+pub mod kinds;
+
 ghost use mathlib.Core.Path.{_≡_};
 ghost use Prim.Native.Nat.{_+_, _≤_, _<_};
 ghost use lib.ListN.{length};

@@ -1,5 +1,5 @@
 use mathlib.Core.Path.{_∙_}
-use Rattle.acceptance.specs.Answers.{says}
+use Rattle.check_file.specs.Answers.{says}
 use Rattle.panelrue_c.specs.Packed.{packed}
 use borrow.Author.Needs.{needs}
 use Rattle.panelrue_c.proofs.number.Statement.{statement}

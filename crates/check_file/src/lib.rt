@@ -1,0 +1,225 @@
+// The check of a procedure file: questions 1 to 14 in order.
+use records::Found;
+use records::count_of;
+use records::function_count;
+use records::shift_by;
+ghost use mathlib.Core.Path.{_≡_};
+ghost use mathlib.Core.Bool.{true, _||_};
+ghost use Prim.Native.Nat.{ℕ, _+_, _*_, _-_, _≤_, _<_};
+ghost use lib.Dec.{eqb};
+ghost use lib.ListN.{length, getD};
+ghost use Rattle.varset.specs.Lowest.{pick};
+ghost use Rattle.records.specs.Fields.{functions};
+ghost use Rattle.records.specs.Parts.{Laid};
+ghost use Rattle.records.specs.Search.{firstIn};
+ghost use Rattle.spec_language.specs.Records.{headerOk, recordsOk};
+ghost use Rattle.spec_language.specs.Nodes.{answers};
+ghost use Rattle.spec_language.specs.Check.{accepted, put, partQuestions, inPart, checkOf};
+ghost use Rattle.spec_language.specs.Known.{Known, Calls};
+ghost use Rattle.check_file.specs.Answers.{says, Small};
+ghost use Rattle.check_file.specs.Stages.{fromFour, Ready, PartsWithin};
+
+// Accepted, or refused by question, place and item.
+pub enum Answer {
+    Accepted,
+    Refused {
+        question: u8,
+        place: usize,
+        item: u32,
+    },
+}
+
+// What fails question q, from 7 to 14, in the part of function f, which has n nodes.
+fn answer_in(file: &[u8], q: u8, f: usize, part: &[u8], n: usize) -> Found
+    requires laid { ⌜ Laid (now file) × (f < functions (now file)) ⌝ }
+    requires inside { ⌜ (12 * n ≤ length (now part)) × (1 ≤ n) × (n ≤ 4096) × (7 ≤ q) ⌝ }
+    requires known { ⌜ (9 < q → Known (now part) n × Calls (functions (now file)) (now part) n) ⌝ }
+    ensures exact { λ r. ⌜ r ≡ getD (answers (now (file .entry)) f (now (part .entry)) n) (q - 7) Found.Nothing ⌝ }
+    ensures small { λ r. ⌜ ((i x : ℕ) → r ≡ Found.At i x → (i < n) × (x < 64)) ⌝ }
+{
+    match q {
+        7 => check_shape::first_node(file, f, part, n, 7),
+        8 => check_shape::first_node(file, f, part, n, 8),
+        9 => check_sorts::first_misplaced(part, n),
+        10 => check_scopes::first_undeclared(file, f, part, n),
+        11 => check_scopes::first_outside(file, f, part, n),
+        12 => check_types::first_mistyped(file, f, part, n),
+        13 => check_flow::first_lacking(file, f, part, n),
+        14 => check_returns::not_returning(part, n),
+        _ => Found::Nothing,
+    }
+}
+
+// The record that the places of question q in function f are counted from.
+fn origin(q: u8, f: usize, start: usize) -> usize
+    requires { ⌜ f < 128 ⌝ }
+    ensures { λ r. ⌜ r ≡ pick (eqb q 10 || eqb q 14) (1 + f) start ⌝ }
+{
+    match q {
+        10 => 1 + f,
+        14 => 1 + f,
+        _ => start,
+    }
+}
+
+// What fails question q, from 7 to 14, in the first function where anything does.
+fn first_in_parts(file: &[u8], q: u8) -> Found
+    requires laid { ⌜ Laid (now file) × (length (now file) ≤ 50700) × (7 ≤ q) ⌝ }
+    requires known { ⌜ Ready (now file) q ⌝ }
+    ensures exact { λ r. ⌜ r ≡ firstIn (inPart q (now (file .entry))) (functions (now (file .entry))) 0 ⌝ }
+    ensures small { λ r. ⌜ ((i x : ℕ) → r ≡ Found.At i x → (i < 4225) × (x < 64)) ⌝ }
+{
+    let functions = function_count(file);
+    let mut f = 0;
+    let mut start = 1 + functions;
+    while f < functions {
+        let n = count_of(file, f);
+        let a = 12 * start;
+        let e = 12 * (start + n);
+        if let Found::At(place, item) = shift_by(
+            answer_in(file, q, f, &file[a..e], n),
+            origin(q, f, start),
+        ) {
+            return Found::At(place, item);
+        }
+        start += n;
+        f += 1;
+    }
+    Found::Nothing
+}
+
+// Whether each part is shown to pass questions 7 to 14, by one pass over its nodes.
+fn parts_pass(file: &[u8], codes: &mut [u8], reads: &mut [u64], sets: &mut [u64]) -> bool
+    requires laid { ⌜ Laid (now file) ⌝ }
+    requires room { ⌜ PartsWithin (now file) (length (now codes)) × PartsWithin (now file) (length (now reads)) × PartsWithin (now file) (length (now sets)) ⌝ }
+    ensures { λ r. ⌜ (r ≡ true → put (partQuestions (now (file .entry)) 8 7) ≡ accepted) ⌝ }
+{
+    let functions = function_count(file);
+    let mut f = 0;
+    let mut start = 1 + functions;
+    while f < functions {
+        let n = count_of(file, f);
+        let a = 12 * start;
+        let e = 12 * (start + n);
+        if !check_pass::part_passes(file, f, &file[a..e], n, codes, reads, sets) {
+            return false;
+        }
+        start += n;
+        f += 1;
+    }
+    true
+}
+
+// The same, with working arrays that have room for the nodes; every node's type is unset at first.
+fn file_passes(file: &[u8]) -> bool
+    requires { ⌜ Laid (now file) × (length (now file) ≤ 50700) ⌝ }
+    ensures { λ r. ⌜ (r ≡ true → put (partQuestions (now (file .entry)) 8 7) ≡ accepted) ⌝ }
+{
+    if file.len() <= 3072 {
+        let mut types = [255u8; 256];
+        let mut reads = [0u64; 256];
+        let mut sets = [0u64; 256];
+        return parts_pass(file, &mut types, &mut reads, &mut sets);
+    }
+    if file.len() <= 12288 {
+        let mut types = [255u8; 1024];
+        let mut reads = [0u64; 1024];
+        let mut sets = [0u64; 1024];
+        return parts_pass(file, &mut types, &mut reads, &mut sets);
+    }
+    let mut types = [255u8; 4096];
+    let mut reads = [0u64; 4096];
+    let mut sets = [0u64; 4096];
+    parts_pass(file, &mut types, &mut reads, &mut sets)
+}
+
+// Questions 7 to 14.
+fn check_parts(file: &[u8]) -> Answer
+    requires { ⌜ Laid (now file) × (length (now file) ≤ 50700) ⌝ }
+    ensures exact { λ r. ⌜ says r ≡ put (partQuestions (now (file .entry)) 8 7) ⌝ }
+    ensures small { λ r. ⌜ Small r ⌝ }
+{
+    if file_passes(file) {
+        return Answer::Accepted;
+    }
+    let mut q = 7;
+    while q < 15 {
+        if let Found::At(place, item) = first_in_parts(file, q) {
+            return Answer::Refused {
+                question: q,
+                place,
+                item,
+            };
+        }
+        q += 1;
+    }
+    Answer::Accepted
+}
+
+// Questions 4 to 14.
+fn check_functions(file: &[u8]) -> Answer
+    requires { ⌜ (36 ≤ length (now file)) × (headerOk (now file) ≡ true) × (recordsOk (now file) ≡ true) ⌝ }
+    ensures exact { λ r. ⌜ says r ≡ put (fromFour (now (file .entry))) ⌝ }
+    ensures small { λ r. ⌜ Small r ⌝ }
+{
+    let functions = function_count(file);
+    if let Found::At(f, item) = check_shape::first_function(file, functions) {
+        return Answer::Refused {
+            question: 4,
+            place: 1 + f,
+            item,
+        };
+    }
+    if !check_header::sum_ok(file, functions) {
+        return Answer::Refused {
+            question: 5,
+            place: 0,
+            item: 0,
+        };
+    }
+    if !check_header::main_ok(file) {
+        return Answer::Refused {
+            question: 6,
+            place: 1,
+            item: 0,
+        };
+    }
+    check_parts(file)
+}
+
+// Whether the file passes questions 1 to 14; else the first question that it fails, with its place and item.
+pub fn check(file: &[u8]) -> Answer
+    ensures exact { λ r. ⌜ says r ≡ checkOf (now (file .entry)) ⌝ }
+    ensures small { λ r. ⌜ Small r ⌝ }
+{
+    let len = file.len();
+    if len % 12 != 0 {
+        return Answer::Refused {
+            question: 1,
+            place: 0,
+            item: 0,
+        };
+    }
+    if len < 36 {
+        return Answer::Refused {
+            question: 1,
+            place: 0,
+            item: 0,
+        };
+    }
+    if !check_header::header_ok(file) {
+        return Answer::Refused {
+            question: 2,
+            place: 0,
+            item: 0,
+        };
+    }
+    if !check_header::records_ok(file) {
+        return Answer::Refused {
+            question: 3,
+            place: 0,
+            item: 0,
+        };
+    }
+    check_functions(file)
+}

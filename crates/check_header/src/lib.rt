@@ -1,0 +1,60 @@
+// Questions 2, 3, 5 and 6: the header, the file's length, the part counts and main.
+use records::count_of;
+use records::function_count;
+use records::mark_at;
+use records::node_count;
+use records::params_of;
+use records::result_of;
+use records::u32_at;
+ghost use mathlib.Core.Path.{_≡_};
+ghost use Prim.Native.Nat.{_+_, _*_, _≤_, _<_};
+ghost use lib.Dec.{eqb};
+ghost use lib.ListN.{length};
+ghost use Rattle.records.specs.Fields.{nodes};
+ghost use Rattle.records.specs.Parts.{sumOf};
+ghost use Rattle.spec_language.specs.Records.{headerOk, recordsOk, mainOk};
+
+// Whether the header is right.
+pub fn header_ok(file: &[u8]) -> bool
+    requires { ⌜ 12 ≤ length (now file) ⌝ }
+    ensures { λ r. ⌜ r ≡ headerOk (now (file .entry)) ⌝ }
+{
+    let functions = function_count(file);
+    let nodes = node_count(file);
+    let zeros = u32_at(file, 8);
+    (mark_at(file, 0) == 21072)
+        & (((1 <= functions) & (functions <= 128))
+            & (((1 <= nodes) & (nodes <= 4096)) & (zeros == 0)))
+}
+
+// Whether the file has as many records as its header says.
+pub fn records_ok(file: &[u8]) -> bool
+    requires { ⌜ 12 ≤ length (now file) ⌝ }
+    ensures { λ r. ⌜ r ≡ recordsOk (now (file .entry)) ⌝ }
+{
+    let functions = function_count(file);
+    let nodes = node_count(file);
+    file.len() == 12 * (1 + functions + nodes)
+}
+
+// Whether the part counts of the functions sum to the node count.
+pub fn sum_ok(file: &[u8], functions: usize) -> bool
+    requires { ⌜ (12 * (1 + functions) ≤ length (now file)) × (functions ≤ 128) ⌝ }
+    ensures { λ r. ⌜ r ≡ eqb (sumOf (now (file .entry)) functions) (nodes (now (file .entry))) ⌝ }
+{
+    let mut sum = 0;
+    let mut f = 0;
+    while f < functions {
+        sum += count_of(file, f);
+        f += 1;
+    }
+    sum == node_count(file)
+}
+
+// Whether function 0 takes nothing and gives an int.
+pub fn main_ok(file: &[u8]) -> bool
+    requires { ⌜ 24 ≤ length (now file) ⌝ }
+    ensures { λ r. ⌜ r ≡ mainOk (now (file .entry)) ⌝ }
+{
+    (params_of(file, 0) == 0) & (result_of(file, 0) == 1)
+}

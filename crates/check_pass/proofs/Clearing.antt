@@ -1,0 +1,27 @@
+-- A part that passes the questions, from what each of them shows.
+use mathlib.Core.Path.{_≡_}
+use mathlib.Core.List.{List}
+use Prim.Native.Nat.{ℕ, _*_, _-_, _≤_, _<_}
+use lib.ListN.{length, getD}
+use Rattle.varset.specs.Sets.{Set, below}
+use Rattle.records.specs.Fields.{functions, paramsOf}
+use Rattle.records.specs.Parts.{Laid}
+use Rattle.records.specs.declared.Found.the-variants.{Nothing}
+use Rattle.spec_language.specs.Nodes.{nodeOk, sizeOk, misplaced, outside, mistyped, answers}
+use Rattle.spec_language.proofs.Facts.{named, arguments, calls}
+use Rattle.spec_language.proofs.Accept.{all-pass, pass-all, none-fails, none-unless, seven-to-fourteen}
+use Rattle.check_pass.specs.Surveyed.{Surveyed}
+use Rattle.check_pass.specs.Judged.{Part}
+use Rattle.check_pass.specs.Passed.{Passed, Clear}
+
+module _ (s : List ℕ) (f : ℕ) (t : List ℕ) (n : ℕ) where
+  pub part-known : {decls : List ℕ} → Laid s → f < functions s → 12 * n ≤ length t → Surveyed s f t n decls → Part s f t n decls
+  part-known g l h k =
+      let seven = all-pass (nodeOk s f t) n (k .seven) in
+      record { laid = g; function = l; inside = h; named = named s f t n g l seven; arguments = arguments s f t n g l seven; calls = calls s f t n g l seven; told = k .told }
+
+  pub clear : {begun : Set} {decls : List ℕ} → begun ≡ below (paramsOf s f) → Surveyed s f t n decls → Passed s f t n begun → Clear s f t n
+  unfolding answers
+  clear b k p =
+      seven-to-fourteen (λ k. getD (answers s f t n) (k - 7) Nothing ≡ Nothing) (k .seven) (pass-all (sizeOk t n) n (p .sized)) (none-fails (misplaced t n) n (p .placed)) (k .ten)
+      (none-fails (outside s f t n) n (p .scoped)) (none-fails (mistyped s f t n) n (p .typed)) (rw (← b) (p .reading)) (none-unless _ 0 (p .returning))

@@ -1,0 +1,103 @@
+-- The working arrays filled node by node, and what a full pass shows.
+use mathlib.Core.Path.{_≡_, refl, sym, _∙_}
+use mathlib.Core.Bool.{Bool, true, false, _&&_, and-false}
+use mathlib.Core.List.{List, [], _∷_}
+use Prim.Native.Nat.{ℕ, zero, suc, _+_, _-_, _≤_, _<_}
+use native.Mathlib.Omega.{arith}
+use native.Mathlib.Decide.{decLt}
+use lib.Dec.{eqb}
+use lib.ListN.{getD, set, length, length-set}
+use lib.Seq.{getD-set-same, getD-set-other}
+use borrow.Author.Tests.{eqb-true, eq-eqb, le-leb}
+use Rattle.varset.specs.Sets.{Set, has, none, less, Sub}
+use Rattle.records.specs.Fields.{kindAt, sizeAt}
+use Rattle.records.specs.Children.{children}
+use Rattle.records.proofs.Bools.{and-left, and-right, and-both, by}
+use Rattle.spec_language.specs.Statements.{statementAt}
+use Rattle.spec_language.specs.Types.{typeAt, wantAt, agree}
+use Rattle.spec_language.specs.Nodes.{sizeOk, wrongChild, some, misplaced, mistyped}
+use Rattle.check_effects.specs.Effects.{Means}
+use Rattle.check_effects.proofs.Parts.{empty-member}
+use Rattle.check_pass.specs.Judged.{Kids, Judged, Filled}
+use Rattle.check_pass.specs.Passed.{Passed}
+
+judged-more : {s : List ℕ} {f : ℕ} {t : List ℕ} {n : ℕ} {d d′ : Set} {k c r w : ℕ} → Sub d d′ → Judged s f t n d k c r w → Judged s f t n d′ k c r w
+judged-more h j =
+    record {
+      size = j .size;
+      inside = j .inside;
+      kids = j .kids;
+      scoped = j .scoped;
+      sort = j .sort;
+      type = j .type;
+      covers = j .covers;
+      means = record { reading = j .means .reading; setting = j .means .setting; declared = λ x l. h x (j .means .declared x l); returning = j .means .returning };
+    }
+
+module _ (s : List ℕ) (f : ℕ) (t : List ℕ) (n : ℕ) (d : Set) (i : ℕ) (codes reads sets : List ℕ) where
+  pub filled-none : Filled s f t n d 0 codes reads sets
+  filled-none = record { at = λ k l. absurd (omega arith) }
+
+  pub filled-more : (d′ : Set) → Sub d d′ → Filled s f t n d i codes reads sets → Filled s f t n d′ i codes reads sets
+  filled-more d′ h g = record { at = λ k l. judged-more h (g .at k l) }
+
+  pub filled-next : {c r w : ℕ} → Filled s f t n d i codes reads sets → i < length codes → i < length reads → i < length sets → Judged s f t n d i c r w
+      → Filled s f t n d (i + 1) (set codes i c) (set reads i r) (set sets i w)
+  filled-next {c} {r} {w} g a b e m = record { at = λ k l. go k l (decLt k i) }
+    where
+      go : (k : ℕ) → k < i + 1 → Dec (k < i) → Judged s f t n d k (getD (set codes i c) k 0) (getD (set reads i r) k 0) (getD (set sets i w) k 0)
+      go k l (yes h) =
+          rw (getD-set-other codes i k c 0 (omega arith), getD-set-other reads i k r 0 (omega arith), getD-set-other sets i k w 0 (omega arith)) (g .at k h)
+      go k l (no h) =
+          let q : k ≡ i = omega arith in
+          rw (q, getD-set-same codes i c 0 a, getD-set-same reads i r 0 b, getD-set-same sets i w 0 e) m
+
+-- ---- the tests of a part from those of its nodes
+
+some-none : (p : ℕ → Bool) (n : ℕ) → ((q : ℕ) → q < n → p q ≡ false) → some p n ≡ false
+unfolding some
+some-none p zero h = refl
+some-none p (suc n) h = rw (h n (omega arith), some-none p n (λ q l. h q (omega arith)))
+
+module _ (s : List ℕ) (f : ℕ) (t : List ℕ) (n : ℕ) where
+  wrong-none : (q i : ℕ) (cs : List ℕ) → Kids s f t n q cs → wrongChild t (kindAt t q) cs i ≡ false
+  unfolding wrongChild
+  wrong-none q i [] k = refl
+  wrong-none q i (c ∷ cs) k = rw (k .0 .sort, and-false (eqb i c), wrong-none q i cs (k .1))
+
+  agree-all : (i : ℕ) (cs : List ℕ) → Kids s f t n i cs → agree (wantAt s f t n i) (typeAt s f t n) cs ≡ true
+  unfolding agree
+  agree-all i [] k = refl
+  agree-all i (c ∷ cs) k = rw (k .0 .type, agree-all i cs (k .1))
+
+  pub all-pass : {d : Set} {codes reads sets : List ℕ} {i₀ last size code r w : ℕ} (late : ℕ) (begun : Set) (e : Bool) → 1 ≤ n → n ≤ i₀ → Filled s f t n d i₀ codes reads sets → last ≡ n - 1
+      → (last < i₀ → Judged s f t n d last code r w) → size ≡ sizeAt t last → has late ≡ less (has r) begun → (e ≡ true → has late ≡ none)
+      → ((eqb code 4 && eqb size n) && e) ≡ true → Passed s f t n begun
+  unfolding sizeOk misplaced mistyped less
+  all-pass {d} {codes} {reads} {sets} {i₀} {last} {size} {code} {r} {w} late begun e one all g₀ q jb x y v z =
+      let g : (k : ℕ) → k < n → Judged s f t n d k (getD codes k 0) (getD reads k 0) (getD sets k 0) = λ k l. g₀ .at k (omega arith) in
+      let u = and-left (eqb code 4 && eqb size n) e z in
+      let four : code ≡ 4 = eqb-true code 4 (and-left (eqb code 4) (eqb size n) u) in
+      let full : size ≡ n = eqb-true size n (and-right (eqb code 4) (eqb size n) u) in
+      let none-late : has late ≡ none = v (and-right (eqb code 4 && eqb size n) e z) in
+      let j = jb (omega arith) in
+      let m : Means (statementAt t (n - 1)) d code r w = rw q at (j .means) in
+      record {
+        sized =
+            λ i l. let k = g i l in
+            rw (eq-eqb (sizeAt t i) _ (k .size), le-leb _ i (k .inside)) (by (eqb (1 + i) n)
+            (λ b. let w : i ≡ last = omega (arith, eqb-true (1 + i) n b) in rw (b, w, eq-eqb (sizeAt t last) n (sym x ∙ full)))
+            (λ b. rw b));
+        placed =
+            λ i l. let none-wrong = some-none (λ p. wrongChild t (kindAt t p) (children t p) i) n (λ p h. wrong-none p i (children t p) (g p h .kids)) in
+            rw none-wrong (by (eqb (1 + i) n)
+            (λ b. let w : i ≡ last = omega (arith, eqb-true (1 + i) n b) in rw (b, w, j .sort, four))
+            (λ b. rw b));
+        scoped = λ i l. g i l .scoped;
+        typed = λ i l. rw (agree-all i (children t i) (g i l .kids));
+        reading = m .reading begun (λ k h. by (begun k) (λ b. b) (λ b. empty-member k (rw (← none-late, y) (and-both (has r k) _ h (rw b)))));
+        returning = m .returning four;
+      }
+
+pub kept-length : (xs : List ℕ) (i v : ℕ) {ys : List ℕ} {m : ℕ} → ys ≡ set xs i v → length xs ≡ m → length ys ≡ m
+kept-length xs i v e h = rw e (length-set xs i v ∙ h)

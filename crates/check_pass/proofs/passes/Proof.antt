@@ -1,0 +1,111 @@
+use Rattle.spec_language.specs.Scopes.{usesVariable}
+use Rattle.spec_language.specs.Known.{namesVariable}
+use Rattle.varset.specs.Sets.{has}
+use mathlib.Core.Bool.{false≢true}
+use mathlib.Core.Path.{_≡_, refl}
+use lib.ListN.{length}
+use Prim.Native.Nat.{_-_, _≤_}
+use Rattle.check_pass.proofs.Filling.{filled-none, filled-more, filled-next, all-pass, kept-length}
+use Rattle.check_pass.specs.Judged.{Filled}
+use borrow.Author.Needs.{needs}
+use native.Mathlib.Omega.{arith}
+use Rattle.check_pass.proofs.passes.Statement.{statement}
+use Rattle.check_pass.proofs.passes.Tie as tie
+
+abbrev Inv-loop : tie.InvT-loop
+Inv-loop file f part n decls begun codes₀ reads₀ sets₀ declared₀ i₀ codes reads sets declared i = (i ≤ n) × ((length codes ≡ length codes₀) × (length reads ≡ length reads₀) × (length sets ≡ length sets₀)) × Filled file f part n (has (declared .0)) i codes reads sets
+
+abbrev μ-loop : tie.MeasureT-loop
+μ-loop file f part n decls begun codes₀ reads₀ sets₀ declared₀ i₀ codes reads sets declared i = n - i
+
+empty-requires : tie.Need-empty-requires Inv-loop μ-loop
+empty-requires c κs = search needs
+
+loop-holds : tie.Need-loop-holds Inv-loop μ-loop
+loop-holds c = (search needs, (refl, refl, refl), filled-none _ _ _ _ _ 0 _ _ _)
+
+with-decl-requires : tie.Need-with-decl-requires Inv-loop μ-loop
+unfolding namesVariable usesVariable
+with-decl-requires c κs = (omega (arith, c .before .before .before .before .before .before .before .before .pre .0 .0 .inside, c .loop-test .taken), λ z. c .before .before .before .before .before .before .before .before .pre .0 .0 .named _ (c .loop-test .taken) (rw z refl))
+
+node-at-requires : tie.Need-node-at-requires Inv-loop μ-loop
+node-at-requires c κs = record { part = c .before .before .before .before .before .before .before .before .before .before .before .before .pre .0 .0; below = c .before .before .before .before .loop-test .taken; codeRoom = omega (arith, c .before .before .before .before .before .loop .inv .1 .0, c .before .before .before .before .before .before .before .before .before .before .before .before .pre .1 .0); readRoom = omega (arith, c .before .before .before .before .before .loop .inv .1 .1, c .before .before .before .before .before .before .before .before .before .before .before .before .pre .1 .1); setRoom = omega (arith, c .before .before .before .before .before .loop .inv .1 .2, c .before .before .before .before .before .before .before .before .before .before .before .before .pre .1 .2); filled = filled-more _ _ _ _ _ _ _ _ _ _ (c .before .before .before .with-decl .ensures .0) (c .before .before .before .before .before .loop .inv .2); own = c .before .before .before .with-decl .ensures .1 }
+
+same-length : tie.Need-same-length Inv-loop μ-loop
+same-length c = c .before .before .before .before .before .before .before .before .loop .inv .1 .0
+
+same-length-2 : tie.Need-same-length-2 Inv-loop μ-loop
+same-length-2 c = c .before .before .before .before .before .before .before .before .loop .inv .1 .1
+
+same-length-3 : tie.Need-same-length-3 Inv-loop μ-loop
+same-length-3 c = c .before .before .before .before .before .before .before .before .loop .inv .1 .2
+
+returns : tie.Need-returns Inv-loop μ-loop
+returns c = (λ z. absurd (false≢true z), c .before .before .before .before .before .before .before .before .loop .inv .1)
+
+keep-requires : tie.Need-keep-requires Inv-loop μ-loop
+keep-requires c κs = (omega (arith, c .before .before .before .before .before .before .before .before .before .before .loop-test .taken, c .before .before .before .before .before .before .before .before .before .before .before .loop .inv .1 .0, c .before .before .before .before .before .before .before .before .before .before .before .before .before .before .before .before .before .before .pre .1 .0), omega (arith, c .before .before .before .before .before .before .before .before .before .before .loop-test .taken, c .before .before .before .before .before .before .before .before .before .before .before .loop .inv .1 .1, c .before .before .before .before .before .before .before .before .before .before .before .before .before .before .before .before .before .before .pre .1 .1), omega (arith, c .before .before .before .before .before .before .before .before .before .before .loop-test .taken, c .before .before .before .before .before .before .before .before .before .before .before .loop .inv .1 .2, c .before .before .before .before .before .before .before .before .before .before .before .before .before .before .before .before .before .before .pre .1 .2))
+
+add-i : tie.Need-add-i Inv-loop μ-loop
+add-i c = omega (arith, c .before .before .before .before .before .before .before .before .before .before .before .before .before .before .before .before .before .loop-test .taken, c .before .before .before .before .before .before .before .before .before .before .before .before .before .before .before .before .before .before .before .before .before .before .before .before .before .pre .0 .2)
+
+loop-less : tie.Need-loop-less Inv-loop μ-loop
+loop-less c = omega (arith, c .before .before .before .before .before .before .before .before .before .before .before .before .before .before .before .before .before .loop-test .taken)
+
+loop-again : tie.Need-loop-again Inv-loop μ-loop
+loop-again c = (omega (arith, c .before .before .before .before .before .before .before .before .before .before .before .before .before .before .before .before .before .loop-test .taken), (kept-length (c .before .before .before .before .before .before .before .before .before .before .before .before .before .before .before .before .before .before .loop .codes) (c .before .before .before .before .before .before .before .before .before .before .before .before .before .before .before .before .before .before .loop .i) (c .before .before .before .before .before .before .before .before .before .before .before .before .node-at .result .code) (c .before .before .before .before .before .before .keep .ensures .0) (c .before .before .before .before .before .before .before .before .before .before .before .before .before .before .before .before .before .before .loop .inv .1 .0), kept-length (c .before .before .before .before .before .before .before .before .before .before .before .before .before .before .before .before .before .before .loop .reads) (c .before .before .before .before .before .before .before .before .before .before .before .before .before .before .before .before .before .before .loop .i) (c .before .before .before .before .before .before .before .before .before .before .before .before .node-at .result .reads .0) (c .before .before .before .before .before .before .keep .ensures .1) (c .before .before .before .before .before .before .before .before .before .before .before .before .before .before .before .before .before .before .loop .inv .1 .1), kept-length (c .before .before .before .before .before .before .before .before .before .before .before .before .before .before .before .before .before .before .loop .sets) (c .before .before .before .before .before .before .before .before .before .before .before .before .before .before .before .before .before .before .loop .i) (c .before .before .before .before .before .before .before .before .before .before .before .before .node-at .result .sets .0) (c .before .before .before .before .before .before .keep .ensures .2) (c .before .before .before .before .before .before .before .before .before .before .before .before .before .before .before .before .before .before .loop .inv .1 .2)), rw (c .before .before .before .before .before .before .keep .ensures .0, c .before .before .before .before .before .before .keep .ensures .1, c .before .before .before .before .before .before .keep .ensures .2) (filled-next _ _ _ _ _ _ _ _ _ (filled-more _ _ _ _ _ _ _ _ _ _ (c .before .before .before .before .before .before .before .before .before .before .before .before .before .before .before .before .with-decl .ensures .0) (c .before .before .before .before .before .before .before .before .before .before .before .before .before .before .before .before .before .before .loop .inv .2)) (omega (arith, c .before .before .before .before .before .before .before .before .before .before .before .before .before .before .before .before .before .loop-test .taken, c .before .before .before .before .before .before .before .before .before .before .before .before .before .before .before .before .before .before .loop .inv .1 .0, c .before .before .before .before .before .before .before .before .before .before .before .before .before .before .before .before .before .before .before .before .before .before .before .before .before .pre .1 .0)) (omega (arith, c .before .before .before .before .before .before .before .before .before .before .before .before .before .before .before .before .before .loop-test .taken, c .before .before .before .before .before .before .before .before .before .before .before .before .before .before .before .before .before .before .loop .inv .1 .1, c .before .before .before .before .before .before .before .before .before .before .before .before .before .before .before .before .before .before .before .before .before .before .before .before .before .pre .1 .1)) (omega (arith, c .before .before .before .before .before .before .before .before .before .before .before .before .before .before .before .before .before .loop-test .taken, c .before .before .before .before .before .before .before .before .before .before .before .before .before .before .before .before .before .before .loop .inv .1 .2, c .before .before .before .before .before .before .before .before .before .before .before .before .before .before .before .before .before .before .before .before .before .before .before .before .before .pre .1 .2)) (c .before .before .before .before .before .before .before .before .before .before .before .before .node-at .ensures (omega arith))))
+
+sub-last : tie.Need-sub-last Inv-loop μ-loop
+sub-last c = omega (arith, c .before .before .before .before .before .before .before .before .pre .0 .1)
+
+effect-of-requires : tie.Need-effect-of-requires Inv-loop μ-loop
+effect-of-requires c κs = (omega (arith, c .before .before .before .before .before .before .before .before .before .before .before .pre .0 .1, c .before .before .before .before .loop .inv .1 .0, c .before .before .before .before .before .before .before .before .before .before .before .pre .1 .0), omega (arith, c .before .before .before .before .before .before .before .before .before .before .before .pre .0 .1, c .before .before .before .before .loop .inv .1 .1, c .before .before .before .before .before .before .before .before .before .before .before .pre .1 .1), omega (arith, c .before .before .before .before .before .before .before .before .before .before .before .pre .0 .1, c .before .before .before .before .loop .inv .1 .2, c .before .before .before .before .before .before .before .before .before .before .before .pre .1 .2))
+
+size-at-requires : tie.Need-size-at-requires Inv-loop μ-loop
+size-at-requires c κs = omega (arith, c .before .before .before .before .before .before .before .before .before .before .before .before .before .before .pre .0 .0 .inside, c .before .before .before .before .before .before .before .before .before .before .before .before .before .before .pre .0 .1)
+
+minus-requires : tie.Need-minus-requires Inv-loop μ-loop
+minus-requires c κs = search needs
+
+is-empty-requires : tie.Need-is-empty-requires Inv-loop μ-loop
+is-empty-requires c κs = search needs
+
+same-length-4 : tie.Need-same-length-4 Inv-loop μ-loop
+same-length-4 c = c .before .before .before .before .before .before .before .before .before .before .loop .inv .1 .0
+
+same-length-5 : tie.Need-same-length-5 Inv-loop μ-loop
+same-length-5 c = c .before .before .before .before .before .before .before .before .before .before .loop .inv .1 .1
+
+same-length-6 : tie.Need-same-length-6 Inv-loop μ-loop
+same-length-6 c = c .before .before .before .before .before .before .before .before .before .before .loop .inv .1 .2
+
+returns-2 : tie.Need-returns-2 Inv-loop μ-loop
+returns-2 c = (λ z. all-pass _ _ _ _ _ _ _ (c .before .before .before .before .before .before .before .before .before .before .before .before .before .before .before .before .before .pre .0 .1) (omega (arith, c .before .before .before .before .before .before .before .before .before .loop-test .left)) (c .before .before .before .before .before .before .before .before .before .before .loop .inv .2) refl (c .before .before .before .before .before .effect-of .ensures _ _ _ _ _ _ (c .before .before .before .before .before .before .before .before .before .before .loop .inv .2)) (c .before .before .size-at .ensures .0) (c .before .minus .ensures) (c .is-empty .ensures) z, c .before .before .before .before .before .before .before .before .before .before .loop .inv .1)
+
+pub passes-spec : {M : Type 1} → statement M
+passes-spec =
+    tie.close
+    (tie.spec
+    Inv-loop
+    μ-loop
+    empty-requires
+    loop-holds
+    with-decl-requires
+    node-at-requires
+    same-length
+    same-length-2
+    same-length-3
+    returns
+    keep-requires
+    add-i
+    loop-less
+    loop-again
+    sub-last
+    effect-of-requires
+    size-at-requires
+    minus-requires
+    is-empty-requires
+    same-length-4
+    same-length-5
+    same-length-6
+    returns-2)

@@ -1,0 +1,4 @@
+pub mod Limits
+pub mod Surveyed
+pub mod Judged
+pub mod Passed

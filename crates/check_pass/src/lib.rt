@@ -1,0 +1,170 @@
+// The pass over the nodes of a part, kind by kind, and over the parts of a file: passed, or not known.
+mod nodes;
+pub mod survey;
+
+use check_effects::Effect;
+use check_effects::plain;
+use records::minus;
+use records::nodes::a_at;
+use records::nodes::b_at;
+use records::nodes::kind_at;
+use records::nodes::size_at;
+use records::params_of;
+use records::result_of;
+use records::wide;
+use varset::VarSet;
+ghost use mathlib.Core.Path.{_≡_};
+ghost use mathlib.Core.Bool.{true};
+ghost use Prim.Native.Nat.{_+_, _*_, _-_, _≤_, _<_};
+ghost use lib.ListN.{length, set};
+ghost use Rattle.varset.specs.Sets.{has};
+ghost use Rattle.records.specs.Fields.{functions, kindAt};
+ghost use Rattle.records.specs.Parts.{Laid};
+ghost use Rattle.check_pass.specs.Passed.{Passed, Clear};
+ghost use Rattle.check_pass.specs.Judged.{Judged, Part, Ready};
+
+// A call.
+fn call_at(
+    file: &[u8],
+    f: usize,
+    part: &[u8],
+    n: usize,
+    decls: &[usize; 64],
+    codes: &[u8],
+    reads: &[u64],
+    sets: &[u64],
+    seen: VarSet,
+    i: usize,
+) -> Effect
+    requires { ⌜ Ready (now file) f (now part) n (now decls) (now codes) (now reads) (now sets) (has (seen .0)) i × (kindAt (now part) i ≡ 5) ⌝ }
+    ensures { λ r. ⌜ (r .code < 255 → Judged (now (file .entry)) f (now (part .entry)) n (has (seen .0)) i (r .code) (r .reads .0) (r .sets .0)) ⌝ }
+{
+    let callee = b_at(part, i) as usize;
+    let mut j = wide(a_at(part, i)) as usize;
+    let mut c = minus(i, 1);
+    let mut sum = 0;
+    let mut all = VarSet::empty();
+    while 0 < j {
+        j -= 1;
+        if codes[c] != check_types::param_type(file, callee, j) {
+            return plain(255, VarSet::empty(), VarSet::empty());
+        }
+        all = all.union(nodes::reads_of(reads, c));
+        let size = size_at(part, c);
+        sum += size;
+        c = minus(c, size);
+    }
+    let found = result_of(file, callee);
+    let passes = (found < 3) & nodes::fits(part, i, sum);
+    nodes::guard(passes, plain(found, all, VarSet::empty()))
+}
+
+// A node of any kind.
+fn node_at(
+    file: &[u8],
+    f: usize,
+    part: &[u8],
+    n: usize,
+    decls: &[usize; 64],
+    codes: &[u8],
+    reads: &[u64],
+    sets: &[u64],
+    seen: VarSet,
+    i: usize,
+) -> Effect
+    requires { ⌜ Ready (now file) f (now part) n (now decls) (now codes) (now reads) (now sets) (has (seen .0)) i ⌝ }
+    ensures { λ r. ⌜ (r .code < 255 → Judged (now (file .entry)) f (now (part .entry)) n (has (seen .0)) i (r .code) (r .reads .0) (r .sets .0)) ⌝ }
+{
+    let kind = kind_at(part, i);
+    let t = result_of(file, f);
+    match kind {
+        0 => nodes::leaf_at(file, f, part, n, decls, codes, reads, sets, seen, i, 1),
+        1 => nodes::leaf_at(file, f, part, n, decls, codes, reads, sets, seen, i, 2),
+        2 => nodes::variable_at(file, f, part, n, decls, codes, reads, sets, seen, i),
+        3 => {
+            let t = check_types::operator_type(a_at(part, i));
+            nodes::operator_at(file, f, part, n, decls, codes, reads, sets, seen, i, 1, t)
+        }
+        4 => nodes::operator_at(file, f, part, n, decls, codes, reads, sets, seen, i, 2, 2),
+        5 => call_at(file, f, part, n, decls, codes, reads, sets, seen, i),
+        6 => nodes::leaf_at(file, f, part, n, decls, codes, reads, sets, seen, i, 3),
+        7 => nodes::sequence_at(file, f, part, n, decls, codes, reads, sets, seen, i),
+        8 => nodes::assign_at(file, f, part, n, decls, codes, reads, sets, seen, i),
+        9 => nodes::scope_at(file, f, part, n, decls, codes, reads, sets, seen, i),
+        10 => nodes::branches_at(file, f, part, n, decls, codes, reads, sets, seen, i),
+        11 => nodes::loop_at(file, f, part, n, decls, codes, reads, sets, seen, i),
+        12 => nodes::single_at(file, f, part, n, decls, codes, reads, sets, seen, i, t, 4),
+        13 => nodes::single_at(file, f, part, n, decls, codes, reads, sets, seen, i, 2, 3),
+        14 => nodes::single_at(file, f, part, n, decls, codes, reads, sets, seen, i, 254, 3),
+        15 => nodes::leaf_at(file, f, part, n, decls, codes, reads, sets, seen, i, 0),
+        _ => plain(255, VarSet::empty(), VarSet::empty()),
+    }
+}
+
+// The effect of node i, kept in the working arrays.
+fn keep(codes: &mut [u8], reads: &mut [u64], sets: &mut [u64], i: usize, e: Effect)
+    requires { ⌜ (i < length (now codes)) × (i < length (now reads)) × (i < length (now sets)) ⌝ }
+    ensures { λ r. ⌜ (now (codes .exit) ≡ set (now (codes .entry)) i (e .code)) × (now (reads .exit) ≡ set (now (reads .entry)) i (e .reads .0)) × (now (sets .exit) ≡ set (now (sets .entry)) i (e .sets .0)) ⌝ }
+{
+    codes[i] = e.code;
+    reads[i] = e.reads.0;
+    sets[i] = e.sets.0;
+}
+
+// Whether the pass over a part of n nodes shows that it passes.
+fn passes(
+    file: &[u8],
+    f: usize,
+    part: &[u8],
+    n: usize,
+    decls: &[usize; 64],
+    begun: VarSet,
+    codes: &mut [u8],
+    reads: &mut [u64],
+    sets: &mut [u64],
+) -> bool
+    requires inside { ⌜ Part (now file) f (now part) n (now decls) × (1 ≤ n) × (n ≤ 4096) ⌝ }
+    requires room { ⌜ (n ≤ length (now codes)) × (n ≤ length (now reads)) × (n ≤ length (now sets)) ⌝ }
+    ensures shown { λ r. ⌜ (r ≡ true → Passed (now (file .entry)) f (now (part .entry)) n (has (begun .0))) ⌝ }
+    ensures room { λ r. ⌜ (length (now (codes .exit)) ≡ length (now (codes .entry))) × (length (now (reads .exit)) ≡ length (now (reads .entry))) × (length (now (sets .exit)) ≡ length (now (sets .entry))) ⌝ }
+{
+    let mut seen = VarSet::empty();
+    let mut i = 0;
+    while i < n {
+        seen = check_effects::with_decl(part, i, seen);
+        let e = node_at(file, f, part, n, decls, codes, reads, sets, seen, i);
+        if e.code == 255 {
+            return false;
+        }
+        keep(codes, reads, sets, i, e);
+        i += 1;
+    }
+    let last = n - 1;
+    let body = nodes::effect_of(codes, reads, sets, last);
+    let late = body.reads;
+    (body.code == 4) & (size_at(part, last) == n) & check_effects::is_empty(late.minus(begun))
+}
+
+// Whether the part of function f, of n nodes, is shown to pass questions 7 to 14.
+pub fn part_passes(
+    file: &[u8],
+    f: usize,
+    part: &[u8],
+    n: usize,
+    codes: &mut [u8],
+    reads: &mut [u64],
+    sets: &mut [u64],
+) -> bool
+    requires laid { ⌜ Laid (now file) × (f < functions (now file)) ⌝ }
+    requires inside { ⌜ (12 * n ≤ length (now part)) × (1 ≤ n) × (n ≤ 4096) ⌝ }
+    requires room { ⌜ (n ≤ length (now codes)) × (n ≤ length (now reads)) × (n ≤ length (now sets)) ⌝ }
+    ensures clear { λ r. ⌜ (r ≡ true → Clear (now (file .entry)) f (now (part .entry)) n) ⌝ }
+    ensures room { λ r. ⌜ (length (now (codes .exit)) ≡ length (now (codes .entry))) × (length (now (reads .exit)) ≡ length (now (reads .entry))) × (length (now (sets .exit)) ≡ length (now (sets .entry))) ⌝ }
+{
+    let mut decls = [0usize; 64];
+    if !crate::survey::survey_part(file, f, part, n, &mut decls) {
+        return false;
+    }
+    let begun = VarSet::below(wide(params_of(file, f)));
+    passes(file, f, part, n, &decls, begun, codes, reads, sets)
+}

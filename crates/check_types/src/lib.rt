@@ -1,0 +1,173 @@
+// Question 12: the type of each node, and the types that nodes want.
+use records::Found;
+use records::mask_of;
+use records::minus;
+use records::nodes::a_at;
+use records::nodes::arity_at;
+use records::nodes::b_at;
+use records::nodes::kind_at;
+use records::nodes::prior;
+use records::params_of;
+use records::result_of;
+use records::wide;
+ghost use mathlib.Core.Path.{_≡_};
+ghost use Prim.Native.Nat.{_+_, _*_, _-_, _≤_, _<_};
+ghost use lib.ListN.{length, getD};
+ghost use Rattle.records.specs.Fields.{functions, paramsOf, kindAt};
+ghost use Rattle.records.specs.Parts.{Laid};
+ghost use Rattle.records.specs.Search.{firstOf};
+ghost use Rattle.records.specs.Children.{children};
+ghost use Rattle.spec_language.specs.Types.{paramType, varType, operatorType, typeAt, condition, wantAt, suits, agree};
+ghost use Rattle.spec_language.specs.Nodes.{mistyped};
+ghost use Rattle.spec_language.specs.Known.{Known, Calls};
+ghost use Rattle.check_scopes.specs.Counts.{Decls};
+
+// The type of parameter k of function f.
+pub fn param_type(file: &[u8], f: usize, k: usize) -> u8
+    requires { ⌜ (12 * (1 + f) + 12 ≤ length (now file)) × (k < 8) ⌝ }
+    ensures { λ r. ⌜ r ≡ paramType (now (file .entry)) f k ⌝ }
+{
+    1 + (mask_of(file, f) >> k) % 2
+}
+
+// The type of variable x of function f.
+pub fn var_type(file: &[u8], f: usize, part: &[u8], n: usize, decls: &[usize; 64], x: u32) -> u8
+    requires laid { ⌜ (12 * (1 + f) + 12 ≤ length (now file)) × (paramsOf (now file) f ≤ 8) ⌝ }
+    requires inside { ⌜ (12 * n ≤ length (now part)) × (1 ≤ n) × (x < 64) ⌝ }
+    requires told { ⌜ Decls (now part) n (now decls) ⌝ }
+    ensures { λ r. ⌜ r ≡ varType (now (file .entry)) f (now (part .entry)) n x ⌝ }
+{
+    if x < wide(params_of(file, f)) {
+        param_type(file, f, x as usize)
+    } else {
+        let d = decls[x as usize];
+        a_at(part, d)
+    }
+}
+
+// The type that an operator gives.
+pub fn operator_type(a: u8) -> u8
+    ensures { λ r. ⌜ r ≡ operatorType a ⌝ }
+{
+    if a < 10 { 1 } else { 2 }
+}
+
+// The type of node i of function f's part, of n nodes.
+pub fn type_of(file: &[u8], f: usize, part: &[u8], n: usize, decls: &[usize; 64], i: usize) -> u8
+    requires laid { ⌜ Laid (now file) × (f < functions (now file)) ⌝ }
+    requires inside { ⌜ (12 * n ≤ length (now part)) × (i < n) ⌝ }
+    requires known { ⌜ Known (now part) n × Calls (functions (now file)) (now part) n ⌝ }
+    requires told { ⌜ Decls (now part) n (now decls) ⌝ }
+    ensures { λ r. ⌜ r ≡ typeAt (now (file .entry)) f (now (part .entry)) n i ⌝ }
+{
+    let kind = kind_at(part, i);
+    match kind {
+        0 => 1,
+        1 => 2,
+        2 => var_type(file, f, part, n, decls, b_at(part, i)),
+        3 => operator_type(a_at(part, i)),
+        4 => 2,
+        5 => {
+            let callee = b_at(part, i) as usize;
+            result_of(file, callee)
+        }
+        15 => 0,
+        _ => 255,
+    }
+}
+
+// What a condition wants of child k.
+fn condition_type(k: usize) -> u8
+    ensures { λ r. ⌜ r ≡ condition k ⌝ }
+{
+    if k == 0 { 2 } else { 254 }
+}
+
+// The type that node i wants of child k.
+fn want_of(
+    file: &[u8],
+    f: usize,
+    part: &[u8],
+    n: usize,
+    decls: &[usize; 64],
+    i: usize,
+    k: usize,
+) -> u8
+    requires laid { ⌜ Laid (now file) × (f < functions (now file)) ⌝ }
+    requires inside { ⌜ (12 * n ≤ length (now part)) × (i < n) × (kindAt (now part) i ≡ 5 → k < 8) ⌝ }
+    requires known { ⌜ Known (now part) n × Calls (functions (now file)) (now part) n ⌝ }
+    requires told { ⌜ Decls (now part) n (now decls) ⌝ }
+    ensures { λ r. ⌜ r ≡ wantAt (now (file .entry)) f (now (part .entry)) n i k ⌝ }
+{
+    let kind = kind_at(part, i);
+    match kind {
+        3 => 1,
+        4 => 2,
+        5 => {
+            let callee = b_at(part, i) as usize;
+            param_type(file, callee, k)
+        }
+        8 => var_type(file, f, part, n, decls, b_at(part, i)),
+        10 => condition_type(k),
+        11 => condition_type(k),
+        12 => result_of(file, f),
+        13 => 2,
+        _ => 254,
+    }
+}
+
+// Whether a type is the one wanted.
+pub fn is_suited(want: u8, found: u8) -> bool
+    ensures { λ r. ⌜ r ≡ suits want found ⌝ }
+{
+    (want == 254) | (want == found)
+}
+
+// Whether the children of node i have the types that it wants.
+fn children_agree(
+    file: &[u8],
+    f: usize,
+    part: &[u8],
+    n: usize,
+    decls: &[usize; 64],
+    types: &[u8; 4096],
+    i: usize,
+) -> bool
+    requires laid { ⌜ Laid (now file) × (f < functions (now file)) ⌝ }
+    requires inside { ⌜ (12 * n ≤ length (now part)) × (i < n) × (n ≤ 4096) ⌝ }
+    requires known { ⌜ Known (now part) n × Calls (functions (now file)) (now part) n ⌝ }
+    requires told { ⌜ Decls (now part) n (now decls) ⌝ }
+    ensures { λ r. ⌜ r ≡ agree (wantAt (now (file .entry)) f (now (part .entry)) n i) (λ k. getD (now (types .entry)) k 0) (children (now (part .entry)) i) ⌝ }
+{
+    let mut j = arity_at(part, i);
+    let mut c = minus(i, 1);
+    while 0 < j {
+        j -= 1;
+        let want = want_of(file, f, part, n, decls, i, j);
+        if !is_suited(want, types[c]) {
+            return false;
+        }
+        c = prior(part, c);
+    }
+    true
+}
+
+// The lowest node of function f's part, of n nodes, with a child of another type than it wants.
+pub fn first_mistyped(file: &[u8], f: usize, part: &[u8], n: usize) -> Found
+    requires laid { ⌜ Laid (now file) × (f < functions (now file)) ⌝ }
+    requires inside { ⌜ (12 * n ≤ length (now part)) × (n ≤ 4096) ⌝ }
+    requires known { ⌜ Known (now part) n × Calls (functions (now file)) (now part) n ⌝ }
+    ensures { λ r. ⌜ r ≡ firstOf (mistyped (now (file .entry)) f (now (part .entry)) n) n ⌝ }
+{
+    let decls = check_scopes::decl_table(part, n);
+    let mut types = [255u8; 4096];
+    let mut i = 0;
+    while i < n {
+        if !children_agree(file, f, part, n, &decls, &types, i) {
+            return Found::At(i, 0);
+        }
+        types[i] = type_of(file, f, part, n, &decls, i);
+        i += 1;
+    }
+    Found::Nothing
+}

@@ -1,0 +1,30 @@
+use Rattle.fit_table.proofs.Arms.{row-sums}
+use Rattle.fit_flow.proofs.Passing.{goes-by}
+use mathlib.Core.Path.{refl, _∙_}
+use borrow.Author.Needs.{needs}
+use Rattle.fit_flow.proofs.row_through.Statement.{statement}
+use Rattle.fit_flow.proofs.row_through.Tie as tie
+
+-- src/lib.rt:37:9
+row-at-requires : tie.Need-row-at-requires
+row-at-requires c κs = search needs
+
+-- src/lib.rt:41:9
+is-within-requires : tie.Need-is-within-requires
+is-within-requires c κs = search needs
+
+-- src/lib.rt:44:15
+minus-requires : tie.Need-minus-requires
+minus-requires c κs = search needs
+
+-- src/lib.rt:44:15
+union-requires : tie.Need-union-requires
+union-requires c κs = search needs
+
+-- src/lib.rt:33:1
+returns : tie.Need-returns
+returns c = λ s h. goes-by _ _ (row-sums _ _ (c .before .before .before .before .before .before .before .row-at .ensures) h) (c .before .before .before .is-within .ensures) refl (c .union .ensures ∙ rw (c .before .minus .ensures))
+
+pub row-through-spec : {M : Type 1} → statement M
+row-through-spec =
+    tie.close (tie.spec row-at-requires is-within-requires minus-requires union-requires returns)

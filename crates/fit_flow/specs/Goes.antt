@@ -1,0 +1,12 @@
+-- What the walk through a statement answers.
+use mathlib.Core.Path.{_≡_}
+use Rattle.varset.specs.Sets.{Set, has}
+use Rattle.spec_language.specs.Statements.{Statement}
+use Rattle.spec_language.specs.Flow.{leaves, lacks}
+use Rattle.spec_machine.specs.Test.{clear}
+use Rattle.fit_flow.specs.declared.Passage.{Passage}
+
+-- the answer for the statement s begun with the variables d
+pub record Goes (s : Statement) (d : Set) (r : Passage) : Type 0 where
+  pub ok : r .ok ≡ clear (lacks s d)
+  pub left : has (r .left .0) ≡ leaves s d

@@ -1,0 +1,152 @@
+// What a statement that waits leaves: which variables hold a value after it, and whether it returns; and what an expression reads.
+use fit_table::needs_at;
+use fit_table::row_at;
+use records::nodes::prior;
+use state_words::Ref;
+use varset::VarSet;
+ghost use mathlib.Core.Path.{_≡_};
+ghost use mathlib.Core.Bool.{true};
+ghost use mathlib.Core.Logic.{_↔_};
+ghost use Prim.Native.Nat.{_+_, _*_, _≤_, _<_};
+ghost use lib.ListN.{length};
+ghost use Rattle.varset.specs.Sets.{has, Sub};
+ghost use Rattle.records.specs.Fields.{kindAt};
+ghost use Rattle.spec_language.specs.Statements.{Statement, statementAt};
+ghost use Rattle.spec_language.specs.Flow.{leaves, returns};
+ghost use Rattle.spec_machine.specs.File.{unrolled, looped, programOf};
+ghost use Rattle.spec_machine.specs.Test.{exprIn, stmtIn, reads, ok};
+ghost use Rattle.state_words.specs.Meaning.{refIs};
+ghost use Rattle.fit_table.specs.Tables.{Rowed, Tabled};
+ghost use Rattle.fit_nodes.specs.Part.{Part};
+ghost use Rattle.fit_flow.specs.Goes.{Goes};
+
+// Whether every read of a statement finds a value, and the variables that have a value after it.
+pub struct Passage {
+    pub ok: bool,
+    pub left: VarSet,
+}
+
+// Whether each member of one set is one of another.
+fn is_within(inner: VarSet, outer: VarSet) -> bool
+    ensures { λ r. ⌜ (r ≡ true ↔ Sub (has (inner .0)) (has (outer .0))) ⌝ }
+{
+    fit_table::rows::is_none(inner.minus(outer))
+}
+
+// How values flow through the statement at node i, by its row.
+fn row_through(table: &[u64], i: usize, set: VarSet) -> Passage
+    requires { ⌜ 5 * i + 5 ≤ length (now table) ⌝ }
+    ensures { λ r. ⌜ ((s : Statement) → Rowed s (now (table .entry)) i → Goes s (has (set .0)) r) ⌝ }
+{
+    let row = row_at(table, i);
+    let needs = row.needs;
+    let drops = row.drops;
+    let adds = row.adds;
+    let held = is_within(needs, set);
+    Passage {
+        ok: !row.fails & held,
+        left: set.minus(drops).union(adds),
+    }
+}
+
+// How values flow through the seq of the while at node w: its body, then the while.
+fn seq_through(
+    file: &[u8],
+    f: usize,
+    part: &[u8],
+    n: usize,
+    table: &[u64],
+    w: usize,
+    set: VarSet,
+) -> Passage
+    requires { ⌜ Part (now file) f (now part) n × Tabled (now part) n (now table) × (w < n) × (kindAt (now part) w ≡ 11) ⌝ }
+    ensures { λ r. ⌜ Goes (looped (statementAt (now (part .entry)) w)) (has (set .0)) r ⌝ }
+{
+    let body = row_through(table, w - 1, set);
+    let first = body.ok;
+    let between = body.left;
+    let again = row_through(table, w, between);
+    let second = again.ok;
+    let left = again.left;
+    Passage {
+        ok: first & second,
+        left,
+    }
+}
+
+// How values flow through the if of the while at node w: its condition, then the seq or nothing.
+fn if_through(
+    file: &[u8],
+    f: usize,
+    part: &[u8],
+    n: usize,
+    table: &[u64],
+    w: usize,
+    set: VarSet,
+) -> Passage
+    requires { ⌜ Part (now file) f (now part) n × Tabled (now part) n (now table) × (w < n) × (kindAt (now part) w ≡ 11) ⌝ }
+    ensures { λ r. ⌜ Goes (unrolled (statementAt (now (part .entry)) w)) (has (set .0)) r ⌝ }
+{
+    let held = is_within(needs_at(table, prior(part, w - 1)), set);
+    let entered = seq_through(file, f, part, n, table, w, set);
+    let inner = entered.ok;
+    let left = entered.left;
+    let kept = left.meet(set);
+    Passage {
+        ok: held & inner,
+        left: kept,
+    }
+}
+
+// How values flow through a statement, begun with the set.
+pub fn through(
+    file: &[u8],
+    f: usize,
+    part: &[u8],
+    n: usize,
+    table: &[u64],
+    r: Ref,
+    set: VarSet,
+) -> Passage
+    requires { ⌜ Part (now file) f (now part) n × Tabled (now part) n (now table) × (stmtIn (programOf (now file)) f (refIs r) ≡ true) ⌝ }
+    ensures { λ b. ⌜ (b .ok ≡ ok (programOf (now (file .entry))) f (refIs r) (has (set .0))) × (has (b .left .0) ≡ leaves (programOf (now (file .entry)) .stmt f (refIs r)) (has (set .0))) ⌝ }
+{
+    match r {
+        Ref::Nop => Passage {
+            ok: true,
+            left: set,
+        },
+        Ref::Node(i) => row_through(table, i as usize, set),
+        Ref::IfOf(w) => if_through(file, f, part, n, table, w as usize, set),
+        Ref::SeqOf(w) => seq_through(file, f, part, n, table, w as usize, set),
+    }
+}
+
+// Whether a statement returns.
+pub fn returning(file: &[u8], f: usize, part: &[u8], n: usize, table: &[u64], r: Ref) -> bool
+    requires { ⌜ Part (now file) f (now part) n × Tabled (now part) n (now table) × (stmtIn (programOf (now file)) f (refIs r) ≡ true) ⌝ }
+    ensures { λ b. ⌜ b ≡ returns (programOf (now (file .entry)) .stmt f (refIs r)) ⌝ }
+{
+    match r {
+        Ref::Nop => false,
+        Ref::Node(i) => row_at(table, i as usize).returned,
+        Ref::IfOf(_) => false,
+        Ref::SeqOf(w) => row_at(table, w as usize - 1).returned,
+    }
+}
+
+// Whether every variable that the expression at node i reads is in the set.
+pub fn reads_held(
+    file: &[u8],
+    f: usize,
+    part: &[u8],
+    n: usize,
+    table: &[u64],
+    i: u32,
+    set: VarSet,
+) -> bool
+    requires { ⌜ Part (now file) f (now part) n × Tabled (now part) n (now table) × (exprIn (programOf (now file)) f i ≡ true) ⌝ }
+    ensures { λ r. ⌜ r ≡ reads (programOf (now (file .entry))) f i (has (set .0)) ⌝ }
+{
+    is_within(needs_at(table, i as usize), set)
+}

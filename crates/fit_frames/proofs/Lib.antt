@@ -1,0 +1,9 @@
+pub mod OperandLaws
+pub mod Slots
+pub mod Counts
+pub mod Walk
+pub mod Forms
+pub mod Files
+pub mod Steps
+pub mod Chains
+pub mod Controls

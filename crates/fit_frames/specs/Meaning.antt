@@ -1,0 +1,26 @@
+-- What the code's travelling values stand for, and what one step down promises.
+use mathlib.Core.Path.{_≡_}
+use mathlib.Core.Bool.{true}
+use mathlib.Core.List.{List}
+use Prim.Native.Nat.{ℕ}
+use Rattle.varset.specs.Sets.{has}
+use Rattle.words.specs.Stacks.{blockAt}
+use Rattle.spec_machine.specs.Program.{Program}
+use Rattle.spec_machine.specs.Machine.{Frame}
+use Rattle.spec_image.specs.Decode.{frameOf}
+use Rattle.fit_frames.specs.declared.Down.{Down}
+use Rattle.fit_frames.specs.declared.Next.{Next}
+use Rattle.fit_frames.specs.Travel.{Travel, travel, suits, onward}
+
+-- what comes down
+unfoldable pub downIs : Down → Travel
+downIs d = travel (d .some) (d .kind) (has (d .set .0)) (d .come)
+
+-- the answer of a step over a frame: whether it suits, and where it does what it hands on
+pub record Steps (P : Program) (f : ℕ) (d : Down) (fr : Frame) (r : Next) : Type 0 where
+  pub ok : r .ok ≡ suits P f (downIs d) fr
+  pub on : r .ok ≡ true → downIs (r .down) ≡ onward P f (downIs d) fr
+
+-- the frame with i frames under it
+abbrev pub frameIn : List ℕ → ℕ → Frame
+frameIn m i = frameOf (blockAt 20 m 4480 i)

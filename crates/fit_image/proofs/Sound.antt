@@ -1,0 +1,175 @@
+-- Words that pass are the image of the state that they stand for, which is within the limits and narrow.
+use mathlib.Core.Path.{_≡_, refl, sym, ap, _∙_}
+use mathlib.Core.Bool.{true, false≢true}
+use mathlib.Core.List.{List, [], _∷_, _++_, append-assoc}
+use Prim.Native.Nat.{ℕ, zero, suc, _+_, _*_, _-_, _≤_}
+use native.Mathlib.Omega.{arith}
+use lib.Dec.{eqb, leb}
+use lib.ListN.{length, getD, take, drop, replicate, length-append, length-drop, take-append-drop}
+use lib.Seq.{take-at, drop-at, drop-drop, length-take-le}
+use borrow.Author.Tests.{eqb-true, leb-true}
+use Rattle.words.specs.Blocks.{allZero}
+use Rattle.words.specs.Stacks.{region, entries, Every}
+use Rattle.words.specs.Segments.{total}
+use Rattle.words.proofs.Tests.{both}
+use Rattle.words.proofs.Entries.{length-entries, region-sound}
+use Rattle.spec_machine.specs.Machine.{Exception, abort, calm, State, exception, main, returned}
+use Rattle.spec_machine.specs.Fit.{Within, callerLimit, frameLimit}
+use Rattle.spec_image.specs.Layout.{filled, frameWords, activationWords}
+use Rattle.spec_image.specs.Image.{headWords, activationsOf, framesOf, image}
+use Rattle.spec_image.specs.Decode.{frameOf, controlOf, activationOf, framesHeld, heldIn, runningOf, activationsIn, framesIn, states, stateOf}
+use Rattle.spec_image.specs.Memory.{size, Holds}
+use Rattle.spec_image.specs.Narrow.{NarrowFrame, NarrowActivation, Narrow}
+use Rattle.spec_image.proofs.Rooms.{rooms}
+use Rattle.fit_image.specs.Blocks.{controlOk, frameOk, activationOk}
+use Rattle.fit_image.specs.Words.{passing, tagOk, headOk, activationsOk, framesOk, imageOk}
+use Rattle.fit_image.proofs.Slots.{control-sound}
+use Rattle.fit_image.proofs.Blocks.{zeros, frame-sound, activation-sound}
+use Rattle.fit_image.proofs.Passing.{passing-sound}
+use Rattle.fit_image.proofs.Runs.{runs, head-sound, plain, few-said}
+
+-- ---- the rooms
+
+module _ (l : List ℕ) (long : 16384 ≤ length l) where
+  -- n activations that pass, in their room
+  activations-sound : (n : ℕ) → n ≤ 32 → activationsOk l n ≡ true
+      → let X = entries 136 activationOf l 128 n in
+      (l ≡ take 128 l ++ (region 136 activationWords 32 X ++ drop 4480 l)) × Every NarrowActivation X
+  unfolding activationsOk
+  activations-sound n h e =
+      let t = both (passing 136 activationOk l 128 n) (allZero (take ((32 - n) * 136) (drop (128 + n * 136) l))) e in
+      let p = passing-sound 136 activationWords activationOk activationOf NarrowActivation activation-sound l 128 n (omega arith) (t .0) in
+      (region-sound 136 activationWords activationOf l 32 128 n h (omega arith) (p .0) (t .1), p .1)
+
+  -- n frames that pass, in theirs, and the zeros at the end
+  frames-sound : (n : ℕ) → n ≤ 512 → framesOk l n ≡ true
+      → let F = entries 20 frameOf l 4480 n in
+      (drop 4480 l ≡ region 20 frameWords 512 F ++ (replicate 1664 0 ++ drop 16384 l)) × Every NarrowFrame F
+  unfolding framesOk
+  frames-sound n h e =
+      let F = entries 20 frameOf l 4480 n in
+      let t = both (passing 20 frameOk l 4480 n) _ e in
+      let u = both (allZero (take ((512 - n) * 20) (drop (4480 + n * 20) l))) (allZero (take 1664 (drop 14720 l))) (t .1) in
+      let p = passing-sound 20 frameWords frameOk frameOf NarrowFrame frame-sound l 4480 n (omega arith) (t .0) in
+      let r : l ≡ take 4480 l ++ (region 20 frameWords 512 F ++ drop 14720 l) = region-sound 20 frameWords frameOf l 512 4480 n h (omega arith) (p .0) (u .0) in
+      let d : drop 4480 l ≡ region 20 frameWords 512 F ++ drop 14720 l
+      = ap (drop 4480) r ∙ drop-at (take 4480 l) (region 20 frameWords 512 F ++ drop 14720 l) 4480 (length-take-le 4480 l (omega arith)) in
+      let z : take 1664 (drop 14720 l) ≡ replicate 1664 0
+      = zeros (take 1664 (drop 14720 l)) 1664 (length-take-le 1664 (drop 14720 l) (simp length-drop (omega arith))) (u .1) in
+      let q : drop 14720 l ≡ replicate 1664 0 ++ drop 16384 l
+      = sym (take-append-drop 1664 (drop 14720 l)) ∙ ap (λ (k : List ℕ). take 1664 (drop 14720 l) ++ k) (drop-drop 1664 14720 l) ∙ ap (λ (k : List ℕ). k ++ drop 16384 l) z in
+      (d ∙ ap (λ (k : List ℕ). region 20 frameWords 512 F ++ k) q, p .1)
+
+  -- a list that begins with a part and goes on as l does after size words
+  begins : (p : List ℕ) → l ≡ p ++ drop size l → take size l ≡ p
+  begins p e =
+      let n : length l ≡ length p + length (drop size l) = ap length e ∙ length-append p (drop size l) in
+      let d : length (drop size l) ≡ length l - size = length-drop size l in
+      ap (take size) e ∙ take-at p (drop size l) size (omega arith)
+
+  -- ---- the whole
+
+  module _ (e : imageOk l ≡ true) where
+    head-ok : headOk l ≡ true
+    unfolding imageOk
+    head-ok = both (headOk l) _ e .0
+
+    said : tagOk (getD l 0 0) (getD l 1 0) (getD l 2 0) (getD l 3 0) (getD l 4 0) ≡ true
+    unfolding headOk
+    said = both (tagOk (getD l 0 0) (getD l 1 0) (getD l 2 0) (getD l 3 0) (getD l 4 0)) (allZero (take 123 (drop 5 l))) head-ok .0
+
+    words : take 128 l ≡ getD l 0 0 ∷ getD l 1 0 ∷ getD l 2 0 ∷ getD l 3 0 ∷ getD l 4 0 ∷ replicate 123 0
+    unfolding headOk
+    words = head-sound l (omega arith) (both (tagOk (getD l 0 0) (getD l 1 0) (getD l 2 0) (getD l 3 0) (getD l 4 0)) (allZero (take 123 (drop 5 l))) head-ok .1)
+
+    held : heldIn l (getD l 2 0) ≡ total framesHeld (activationsIn l)
+    unfolding activationsIn
+    held = refl
+
+    few : getD l 2 0 ≤ callerLimit
+    few = few-said _ _ _ _ _ said
+
+    few-held : heldIn l (getD l 2 0) ≤ frameLimit
+    unfolding imageOk
+    few-held = leb-true (heldIn l (getD l 2 0)) frameLimit (both (leb (heldIn l (getD l 2 0)) frameLimit) _ (both (activationsOk l (getD l 2 0)) _ (both (headOk l) _ e .1) .1) .0)
+
+    lower : (l ≡ take 128 l ++ (region 136 activationWords 32 (activationsIn l) ++ drop 4480 l)) × Every NarrowActivation (activationsIn l)
+    unfolding imageOk activationsIn
+    lower = activations-sound (getD l 2 0) (omega (arith, few)) (both (activationsOk l (getD l 2 0)) _ (both (headOk l) _ e .1) .0)
+
+    upper : (drop 4480 l ≡ region 20 frameWords 512 (framesIn l) ++ (replicate 1664 0 ++ drop 16384 l)) × Every NarrowFrame (framesIn l)
+    unfolding imageOk framesIn
+    upper =
+        rw (← held)
+        (frames-sound (heldIn l (getD l 2 0)) (omega (arith, few-held))
+        (both (leb (heldIn l (getD l 2 0)) frameLimit) _ (both (activationsOk l (getD l 2 0)) _ (both (headOk l) _ e .1) .1) .1))
+
+    parts : take size l ≡ rooms (take 128 l) (activationsIn l) (framesIn l)
+    unfolding rooms
+    parts =
+        let A = region 136 activationWords 32 (activationsIn l) in
+        let B = region 20 frameWords 512 (framesIn l) in
+        let Z : List ℕ = replicate 1664 0 in
+        let R = drop 16384 l in
+        begins (take 128 l ++ (A ++ (B ++ Z)))
+        (lower .0 ∙ ap (λ (k : List ℕ). take 128 l ++ (A ++ k)) (upper .0) ∙ sym (four (take 128 l) A B Z R))
+      where
+        four : (p q r t u : List ℕ) → (p ++ (q ++ (r ++ t))) ++ u ≡ p ++ (q ++ (r ++ (t ++ u)))
+        four p q r t u = simp append-assoc
+
+    -- a state that has the words' head, activations and frames
+    module _ (s : State) where
+      finish : stateOf l ≡ s → take 128 l ≡ filled 128 (headWords s) → activationsOf s ≡ activationsIn l → framesOf s ≡ framesIn l → Within s
+          → Holds l (stateOf l) × Within (stateOf l) × Narrow (stateOf l)
+      unfolding image rooms
+      finish d h a f w =
+          let g : rooms (filled 128 (headWords s)) (activationsOf s) (framesOf s) ≡ image s = refl in
+          let p : Holds l s = parts ∙ rw (h, ← a, ← f) g in
+          let n : Narrow s = record { frames = rw f (upper .1); activations = rw a (lower .1) } in
+          rw d (p, w, n)
+
+    -- a state that does not run, by its tag and its int
+    still : (s : State) (t i : ℕ) → stateOf l ≡ s → getD l 0 0 ≡ t → getD l 1 0 ≡ i → (getD l 2 0 ≡ 0) × (getD l 3 0 ≡ 0) × (getD l 4 0 ≡ 0)
+        → filled 128 (headWords s) ≡ t ∷ i ∷ replicate 126 0 → activationsOf s ≡ [] → framesOf s ≡ [] → Within s
+        → Holds l (stateOf l) × Within (stateOf l) × Narrow (stateOf l)
+    unfolding activationsIn framesIn
+    still s t i d ht hi z h a f w = finish s d (words ∙ rw (ht, hi, z .0, z .1, z .2) (sym h)) (a ∙ rw (z .0)) (f ∙ rw (z .0)) w
+
+    -- a state that runs
+    run-on : getD l 0 0 ≡ 2 → getD l 1 0 ≡ 0 → 1 ≤ getD l 2 0 → controlOk (getD l 3 0) (getD l 4 0) ≡ true
+        → Holds l (stateOf l) × Within (stateOf l) × Narrow (stateOf l)
+    unfolding stateOf states activationsIn framesIn filled
+    run-on ht hi hn hc =
+        let c = controlOf (getD l 3 0) (getD l 4 0) in
+        let X = activationsIn l in
+        let F = framesIn l in
+        let a : length X ≡ getD l 2 0 = length-entries 136 activationOf l 128 (getD l 2 0) in
+        let b : length F ≡ total framesHeld X = length-entries 20 frameOf l 4480 (total framesHeld X) in
+        let r = runs c X F (omega arith) b in
+        let h : take 128 l ≡ filled 128 (headWords (runningOf c X F)) = words ∙ rw (ht, hi, r .head, control-sound (getD l 3 0) (getD l 4 0) hc, a) in
+        finish (runningOf c X F) (rw ht) h (r .activations) (r .frames) (r .within (omega (arith, few)) (omega (arith, few-held, held)))
+
+    by-tag : (t : ℕ) → getD l 0 0 ≡ t → tagOk t (getD l 1 0) (getD l 2 0) (getD l 3 0) (getD l 4 0) ≡ true
+        → Holds l (stateOf l) × Within (stateOf l) × Narrow (stateOf l)
+    unfolding tagOk stateOf states headWords activationsOf framesOf filled
+    by-tag zero q u = absurd (false≢true u)
+    by-tag (suc zero) q u =
+        let b = both (eqb (getD l 1 0) 0) _ u in
+        still (main calm) 1 0 (rw q) q (eqb-true (getD l 1 0) 0 (b .0)) (plain _ _ _ (b .1)) refl refl refl tt
+    by-tag (suc (suc zero)) q u =
+        let b = both (eqb (getD l 1 0) 0) _ u in
+        let v = both (leb 1 (getD l 2 0)) _ (b .1) in
+        run-on q (eqb-true (getD l 1 0) 0 (b .0)) (leb-true 1 (getD l 2 0) (v .0)) (both (leb (getD l 2 0) callerLimit) _ (v .1) .1)
+    by-tag (suc (suc (suc zero))) q u = still (returned calm (getD l 1 0)) 3 (getD l 1 0) (rw q) q refl (plain _ _ _ u) refl refl refl tt
+    by-tag (suc (suc (suc (suc zero)))) q u = still (State.value (getD l 1 0)) 4 (getD l 1 0) (rw q) q refl (plain _ _ _ u) refl refl refl tt
+    by-tag (suc (suc (suc (suc (suc zero))))) q u =
+        let b = both (eqb (getD l 1 0) 0) _ u in
+        still (exception Exception.arith) 5 0 (rw q) q (eqb-true (getD l 1 0) 0 (b .0)) (plain _ _ _ (b .1)) refl refl refl tt
+    by-tag (suc (suc (suc (suc (suc (suc zero)))))) q u =
+        let b = both (eqb (getD l 1 0) 0) _ u in
+        still (exception abort) 6 0 (rw q) q (eqb-true (getD l 1 0) 0 (b .0)) (plain _ _ _ (b .1)) refl refl refl tt
+    by-tag (suc (suc (suc (suc (suc (suc (suc t))))))) q u = absurd (false≢true u)
+
+    -- words that pass are the image of the state that they stand for
+    pub image-sound : Holds l (stateOf l) × Within (stateOf l) × Narrow (stateOf l)
+    image-sound = by-tag (getD l 0 0) refl said

@@ -1,0 +1,220 @@
+// The memory check's first half: whether the words of a memory are the image of a state.
+ghost use mathlib.Core.Path.{_≡_};
+ghost use mathlib.Core.Bool.{true};
+ghost use Prim.Native.Nat.{_*_, _≤_, _<_};
+ghost use lib.ListN.{length};
+ghost use Rattle.spec_machine.specs.Machine.{State};
+ghost use Rattle.spec_machine.specs.Fit.{Within};
+ghost use Rattle.spec_image.specs.Decode.{stateOf};
+ghost use Rattle.spec_image.specs.Memory.{Holds};
+ghost use Rattle.spec_image.specs.Narrow.{Narrow};
+ghost use Rattle.fit_image.specs.Blocks.{valueOk, valuesOk, nodesOk, controlOk, operandsOk, frameOk, activationOk};
+ghost use Rattle.fit_image.specs.Words.{tagOk, headOk, activationsOk, framesOk, imageOk};
+
+// Whether a type and a word are a value's.
+fn value_ok(tag: u32, word: u32) -> bool
+    ensures { λ r. ⌜ r ≡ valueOk tag word ⌝ }
+{
+    match tag {
+        0 => word == 0,
+        1 => true,
+        2 => word < 2,
+        _ => false,
+    }
+}
+
+// Whether the first n pairs of words are values.
+fn values_ok(s: &[u32], n: usize) -> bool
+    requires { ⌜ 2 * n ≤ length (now s) ⌝ }
+    ensures { λ r. ⌜ r ≡ valuesOk n (now (s .entry)) ⌝ }
+{
+    let mut i = 0;
+    while i < n {
+        if !value_ok(s[2 * i], s[2 * i + 1]) {
+            return false;
+        }
+        i += 1;
+    }
+    true
+}
+
+// Whether the first n pairs of words are nodes, each with a zero after it.
+fn nodes_ok(s: &[u32], n: usize) -> bool
+    requires { ⌜ 2 * n ≤ length (now s) ⌝ }
+    ensures { λ r. ⌜ r ≡ nodesOk n (now (s .entry)) ⌝ }
+{
+    let mut i = 0;
+    while i < n {
+        if s[2 * i + 1] != 0 {
+            return false;
+        }
+        i += 1;
+    }
+    true
+}
+
+// Whether the slots of a frame hold y values and z nodes, and zeros.
+fn operands_ok(s: &[u32], y: u32, z: u32) -> bool
+    requires { ⌜ length (now s) ≡ 16 ⌝ }
+    ensures { λ r. ⌜ r ≡ operandsOk y z (now (s .entry)) ⌝ }
+{
+    if 7 < y {
+        return false;
+    }
+    if 7 - y < z {
+        return false;
+    }
+    let n = y as usize;
+    let k = z as usize;
+    let mid = 2 * n;
+    let end = mid + 2 * k;
+    values_ok(s, n) & (nodes_ok(&s[mid..], k) & words::all_zero(&s[end..]))
+}
+
+// Whether 20 words are a frame's.
+fn frame_ok(b: &[u32]) -> bool
+    requires { ⌜ length (now b) ≡ 20 ⌝ }
+    ensures { λ r. ⌜ r ≡ frameOk (now (b .entry)) ⌝ }
+{
+    let kind = b[0];
+    if kind < 3 {
+        if kind < 1 {
+            return false;
+        }
+        return operands_ok(&b[4..], b[2], b[3]);
+    }
+    if kind < 6 {
+        return words::all_zero(&b[2..]);
+    }
+    if kind < 7 {
+        return words::all_zero(&b[3..]);
+    }
+    if kind < 10 {
+        return words::all_zero(&b[1..]);
+    }
+    false
+}
+
+// Whether 136 words are an activation's.
+fn activation_ok(b: &[u32]) -> bool
+    requires { ⌜ length (now b) ≡ 136 ⌝ }
+    ensures { λ r. ⌜ r ≡ activationOk (now (b .entry)) ⌝ }
+{
+    let count = b[2];
+    if 64 < count {
+        return false;
+    }
+    let n = count as usize;
+    let end = 8 + 2 * n;
+    words::all_zero(&b[3..8]) & (values_ok(&b[8..], n) & words::all_zero(&b[end..]))
+}
+
+// Whether a form and a word are a control's.
+fn control_ok(form: u32, word: u32) -> bool
+    ensures { λ r. ⌜ r ≡ controlOk form word ⌝ }
+{
+    match form {
+        1 => word == 0,
+        2 => true,
+        3 => word < 2,
+        4 => true,
+        5 => true,
+        _ => false,
+    }
+}
+
+// Whether the first five words are those of a head.
+fn tag_ok(tag: u32, int: u32, count: u32, form: u32, word: u32) -> bool
+    ensures { λ r. ⌜ r ≡ tagOk tag int count form word ⌝ }
+{
+    let zero = int == 0;
+    let plain = (count == 0) & ((form == 0) & (word == 0));
+    match tag {
+        1 => zero & plain,
+        2 => zero & ((1 <= count) & ((count <= 32) & control_ok(form, word))),
+        3 => plain,
+        4 => plain,
+        5 => zero & plain,
+        6 => zero & plain,
+        _ => false,
+    }
+}
+
+// Whether the first 128 words are a head.
+fn head_ok(m: &[u32]) -> bool
+    requires { ⌜ 16384 ≤ length (now m) ⌝ }
+    ensures { λ r. ⌜ r ≡ headOk (now (m .entry)) ⌝ }
+{
+    tag_ok(m[0], m[1], m[2], m[3], m[4]) & words::all_zero(&m[5..128])
+}
+
+// Whether n activations, and zeros above them, lie in their room.
+fn activations_ok(m: &[u32], n: usize) -> bool
+    requires { ⌜ (16384 ≤ length (now m)) × (n ≤ 32) ⌝ }
+    ensures { λ r. ⌜ r ≡ activationsOk (now (m .entry)) n ⌝ }
+{
+    let mut i = n;
+    while 0 < i {
+        i -= 1;
+        let at = 128 + i * 136;
+        let end = at + 136;
+        if !activation_ok(&m[at..end]) {
+            return false;
+        }
+    }
+    let top = 128 + n * 136;
+    words::all_zero(&m[top..4480])
+}
+
+// A word as a number.
+fn wide(x: u32) -> usize
+    ensures { λ r. ⌜ (r ≡ x) × (r < 4294967296) ⌝ }
+{
+    x as usize
+}
+
+// Whether n frames, and zeros above them, lie in their room, and zeros after it.
+fn frames_ok(m: &[u32], n: usize) -> bool
+    requires { ⌜ (16384 ≤ length (now m)) × (n ≤ 512) ⌝ }
+    ensures { λ r. ⌜ r ≡ framesOk (now (m .entry)) n ⌝ }
+{
+    let mut i = n;
+    while 0 < i {
+        i -= 1;
+        let at = 4480 + i * 20;
+        let end = at + 20;
+        if !frame_ok(&m[at..end]) {
+            return false;
+        }
+    }
+    let top = 4480 + n * 20;
+    words::all_zero(&m[top..14720]) & words::all_zero(&m[14720..16384])
+}
+
+// Whether head, activations and frames pass their tests.
+fn image_ok(m: &[u32]) -> bool
+    requires { ⌜ 16384 ≤ length (now m) ⌝ }
+    ensures { λ r. ⌜ r ≡ imageOk (now (m .entry)) ⌝ }
+{
+    if !head_ok(m) {
+        return false;
+    }
+    let n = wide(m[2]);
+    if !activations_ok(m, n) {
+        return false;
+    }
+    let total = state_words::activations::frames_held(m, n);
+    if 512 < total {
+        return false;
+    }
+    frames_ok(m, total)
+}
+
+// Whether the first 16,384 words are the image of a state within the limits and narrow; it is then the state that they stand for.
+pub fn holds_image(m: &[u32]) -> bool
+    requires { ⌜ 16384 ≤ length (now m) ⌝ }
+    ensures sound { λ r. ⌜ (r ≡ true → Holds (now (m .entry)) (stateOf (now (m .entry))) × Within (stateOf (now (m .entry))) × Narrow (stateOf (now (m .entry)))) ⌝ }
+    ensures complete { λ r. ⌜ ((s : State) → Within s → Narrow s → Holds (now (m .entry)) s → r ≡ true) ⌝ }
+{
+    image_ok(m)
+}

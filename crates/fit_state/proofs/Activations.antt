@@ -1,0 +1,39 @@
+-- A running state is proper exactly where each of its activations is fit.
+use mathlib.Core.Path.{_≡_, refl, sym, ap, _∙_}
+use mathlib.Core.Bool.{Bool, true, false, _&&_, and-comm, and-true, and-false}
+use mathlib.Core.List.{List, [], _∷_, _++_}
+use Prim.Native.Nat.{ℕ}
+use lib.ListN.{length}
+use lib.Seq.{take-at, drop-at}
+use Rattle.spec_machine.specs.Values.{Value}
+use Rattle.spec_machine.specs.Program.{Program, varTypes}
+use Rattle.spec_machine.specs.Machine.{Frame, Control, Saved, saved, Ambient, running}
+use Rattle.spec_machine.specs.Fit.{held, comes, comesFrom}
+use Rattle.spec_machine.specs.Test.{known, holds, takes, given, flows, flowsFrom, callers, proper}
+use Rattle.spec_image.specs.Layout.{activation}
+use Rattle.spec_image.specs.Image.{savedActivations, savedFrames}
+use Rattle.fit_frames.proofs.Walk.{caller-walk, current-walk}
+use Rattle.fit_state.specs.Activations.{callersFit, runningFit}
+
+rotated : (h t w c r k : Bool) → (h && (t && (w && (c && (r && k))))) ≡ ((k && (h && (t && (w && c)))) && r)
+rotated true true true true r k = and-comm r k ∙ ap (λ (x : Bool). x && r) (sym (and-true k))
+rotated true true true false r k = rw (and-false k)
+rotated true true false c r k = rw (and-false k)
+rotated true false w c r k = rw (and-false k)
+rotated false t w c r k = rw (and-false k)
+
+module _ (P : Program) where
+  callers-law : (f : ℕ) (A : List Saved) → callers P f A ≡ callersFit P f (savedActivations A) (savedFrames A)
+  unfolding savedActivations savedFrames
+  callers-law f [] = refl
+  callers-law f (saved g θ L ∷ A) =
+      let b = holds θ (varTypes (P .fun g)) in
+      let t = P .fun f .result in
+      rotated b (takes P g t L) (flows P g L (held θ)) (comes P g L) (callers P g A) (known P g)
+      ∙ rw (caller-walk P g t (held θ) L, callers-law g A, take-at L (savedFrames A) (length L) refl, drop-at L (savedFrames A) (length L) refl)
+
+  pub proper-law : (c : Control) (α : Ambient) (f : ℕ) (η : List Value) (K : List Frame) (A : List Saved)
+      → proper P (running c α f η K A) ≡ runningFit P c (activation f (length K) η ∷ savedActivations A) (K ++ savedFrames A)
+  proper-law c α f η K A =
+      and-comm (callers P f A) (known P f && (holds η (varTypes (P .fun f)) && (given P f c K && (flowsFrom P f c K (held η) && comesFrom P f c K))))
+      ∙ rw (current-walk P f c (held η) K, callers-law f A, take-at K (savedFrames A) (length K) refl, drop-at K (savedFrames A) (length K) refl)

@@ -1,4 +1,0 @@
-pub mod Walk
-pub mod Forms
-pub mod Files
-pub mod Steps

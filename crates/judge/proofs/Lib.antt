@@ -1,6 +1,0 @@
-pub mod Kids
-pub mod Judging
-pub mod Calls
-pub mod ByKind
-pub mod Filling
-pub mod Clearing

@@ -1,0 +1,61 @@
+-- Runs in lent memory: what they begin from, and what they answer and leave.
+use mathlib.Core.Path.{_≡_}
+use mathlib.Core.List.{List, [], _∷_, _++_}
+use Prim.Native.Nat.{ℕ, _+_}
+use Rattle.arith.specs.Int.{int}
+use Rattle.spec_language.specs.Check.{accepted, checkOf}
+use Rattle.spec_machine.specs.Values as values
+use Rattle.spec_machine.specs.Machine.{arith, abort, Frame, Control, Saved, calm, State, main, running}
+use Rattle.spec_machine.specs.Run as run
+use Rattle.spec_machine.specs.Run.{Ran, raised}
+use Rattle.spec_machine.specs.Fit.{Fit}
+use Rattle.spec_machine.specs.File.{programOf}
+use Rattle.spec_image.specs.Layout.{filled}
+use Rattle.spec_image.specs.Image.{headWords, activationsOf, framesOf, image}
+use Rattle.run_loop.specs.declared.Outcome.{Outcome}
+use Rattle.run_loop.specs.declared.Outcome.the-variants.{Value, Arith, Abort, Spent, Full}
+
+-- the outcomes as the code has them: the int of a value is signed
+unfoldable pub outcomeOf : run.Outcome → Outcome
+outcomeOf (run.Outcome.value c) = Value (int c)
+outcomeOf (raised arith) = Arith
+outcomeOf (raised abort) = Abort
+outcomeOf run.Spent = Spent
+outcomeOf run.Full = Full
+
+-- the file is accepted, and the memory holds the image of a fit state
+pub record Held (s l : List ℕ) : Type 0 where
+  pub passed : checkOf s ≡ accepted
+  pub state : State
+  pub rest : List ℕ
+  pub held : l ≡ image state ++ rest
+  pub fit : Fit (programOf s) state
+
+-- the same of main() with nothing waiting, and of a running state
+pub record Begins (s l : List ℕ) : Type 0 where
+  pub passed : checkOf s ≡ accepted
+  pub rest : List ℕ
+  pub held : l ≡ image (main calm) ++ rest
+
+pub record Proceeds (s l : List ℕ) : Type 0 where
+  pub passed : checkOf s ≡ accepted
+  pub control : Control
+  pub function : ℕ
+  pub variables : List values.Value
+  pub frames : List Frame
+  pub callers : List Saved
+  pub rest : List ℕ
+  pub held : l ≡ image (running control calm function variables frames callers) ++ rest
+  pub fit : Fit (programOf s) (running control calm function variables frames callers)
+
+-- outcome, steps and memory of a run, after k steps before it
+pub record Ends (k : ℕ) (q : Ran) (outcome : Outcome) (steps : ℕ) (m R : List ℕ) : Type 0 where
+  pub outcome-is : outcome ≡ outcomeOf (q .outcome)
+  pub steps-are : steps ≡ k + q .steps
+  pub held : m ≡ image (q .state) ++ R
+
+-- a state with no activation, by the two words of its head
+pub record Rests (s : State) (tag word : ℕ) : Type 0 where
+  pub head : filled 128 (headWords s) ≡ filled 128 (tag ∷ word ∷ [])
+  pub activations : activationsOf s ≡ []
+  pub frames : framesOf s ≡ []

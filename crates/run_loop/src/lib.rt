@@ -1,0 +1,231 @@
+// A run in lent memory: the head of the state is taken out, kept in locals while rules are taken, and put back at the end.
+use arith::signed;
+use records::count_of;
+use records::starts::starts_of;
+use records::vars_of;
+use records::wide;
+use run_rules::Head;
+use run_rules::Stepped;
+use state_words::Control;
+ghost use mathlib.Core.Path.{_≡_};
+ghost use mathlib.Core.List.{List, _++_};
+ghost use Prim.Native.Nat.{ℕ, _+_, _-_, _≤_, _<_};
+ghost use lib.ListN.{length};
+ghost use Rattle.spec_machine.specs.Values as values;
+ghost use Rattle.spec_machine.specs.Program.{Program};
+ghost use Rattle.spec_machine.specs.Machine as machine;
+ghost use Rattle.spec_machine.specs.Machine.{calm, Frame, Saved, State, running};
+ghost use Rattle.spec_machine.specs.Run.{runOf};
+ghost use Rattle.spec_machine.specs.Fit.{Fit};
+ghost use Rattle.spec_machine.specs.File.{programOf};
+ghost use Rattle.spec_image.specs.Image.{image};
+ghost use Rattle.spec_image.specs.Core.{core};
+ghost use Rattle.state_words.specs.Meaning.{controlIs};
+ghost use Rattle.run_rules.specs.Comes.{Tells, Bounds, Cleared};
+ghost use Rattle.run_step.specs.Done.{Stands};
+ghost use Rattle.run_loop.specs.Runs.{Held, Begins, Proceeds, Ends, Rests};
+
+// How a run ended.
+pub enum Outcome {
+    Value(i32),
+    Arith,
+    Abort,
+    Spent,
+    Full,
+}
+
+// Its outcome, and how many rules were taken.
+pub struct Ran {
+    pub outcome: Outcome,
+    pub steps: u64,
+}
+
+// Puts the head of a running state back.
+fn put_back(m: &mut [u32], c: Control, h: Head)
+    requires { ⌜ Bounds h (now m) ⌝ }
+    ensures { λ _. ⌜ ((s : List ℕ) (f : ℕ) (η : List values.Value) (K : List Frame) (A : List Saved) (R : List ℕ) → now (m .entry) ≡ core f η K A ++ R → Tells s h f K A → now (m .exit) ≡ image (running (controlIs c) calm f η K A) ++ R) ⌝ }
+{
+    let a = h.callers;
+    let callers = h.callers as u32;
+    let frames = h.frames as u32;
+    match c {
+        Control::Nothing => state_stack::head::store_head(m, a, callers, frames, 1, 0),
+        Control::Int(word) => state_stack::head::store_head(m, a, callers, frames, 2, word),
+        Control::Truth(truth) => state_stack::head::store_head(
+            m,
+            a,
+            callers,
+            frames,
+            3,
+            state_words::bit_of(truth),
+        ),
+        Control::Eval(i) => state_stack::head::store_head(m, a, callers, frames, 4, i),
+        Control::Exec(r) => state_stack::head::store_head(m, a, callers, frames, 5, r),
+    }
+}
+
+// Puts the head of a state without activations into words that are all zero.
+fn put_rest(m: &mut [u32], tag: u32, word: u32)
+    requires { ⌜ 16384 ≤ length (now m) ⌝ }
+    ensures { λ _. ⌜ ((s : State) (R : List ℕ) → Cleared (now (m .entry)) R → Rests s tag word → now (m .exit) ≡ image s ++ R) ⌝ }
+{
+    m[0] = tag;
+    m[1] = word;
+}
+
+// The end of a run that main has returned an int to, after so many steps.
+fn finish(m: &mut [u32], word: u32, steps: u64, allowed: u64) -> Ran
+    requires { ⌜ (16384 ≤ length (now m)) × (steps ≤ allowed) ⌝ }
+    ensures { λ r. ⌜ ((P : Program) (R : List ℕ) → Cleared (now (m .entry)) R → Ends steps (runOf P (allowed - steps) (machine.returned calm word)) (r .outcome) (r .steps) (now (m .exit)) R) ⌝ }
+{
+    if steps < allowed {
+        put_rest(m, 4, word);
+        return Ran {
+            outcome: Outcome::Value(signed(word)),
+            steps: steps + 1,
+        };
+    }
+    put_rest(m, 3, word);
+    Ran {
+        outcome: Outcome::Spent,
+        steps,
+    }
+}
+
+// The end of a run by an exception.
+fn fail(m: &mut [u32], tag: u32, outcome: Outcome, steps: u64) -> Ran
+    requires { ⌜ 16384 ≤ length (now m) ⌝ }
+    ensures { λ r. ⌜ (r .outcome ≡ outcome) × (r .steps ≡ steps) × ((s : State) (R : List ℕ) → Cleared (now (m .entry)) R → Rests s tag 0 → now (m .exit) ≡ image s ++ R) ⌝ }
+{
+    put_rest(m, tag, 0);
+    Ran { outcome, steps }
+}
+
+// The end of a run that stops at a running state.
+fn stop(m: &mut [u32], c: Control, h: Head, outcome: Outcome, steps: u64) -> Ran
+    requires { ⌜ Bounds h (now m) ⌝ }
+    ensures { λ r. ⌜ (r .outcome ≡ outcome) × (r .steps ≡ steps) × ((s : List ℕ) (f : ℕ) (η : List values.Value) (K : List Frame) (A : List Saved) (R : List ℕ) → now (m .entry) ≡ core f η K A ++ R → Tells s h f K A → now (m .exit) ≡ image (running (controlIs c) calm f η K A) ++ R) ⌝ }
+{
+    put_back(m, c, h);
+    Ran { outcome, steps }
+}
+
+// Takes rules from a running state on, where some were taken before it.
+fn go(
+    file: &[u8],
+    starts: &[usize; 128],
+    m: &mut [u32],
+    from: Control,
+    head: Head,
+    taken: u64,
+    allowed: u64,
+) -> Ran
+    requires { ⌜ Stands (now file) (now starts) (controlIs from) head (now m) × (16384 ≤ length (now m)) × (taken ≤ allowed) ⌝ }
+    ensures { λ r. ⌜ ((f : ℕ) (η : List values.Value) (K : List Frame) (A : List Saved) (R : List ℕ) → now (m .entry) ≡ core f η K A ++ R → Tells (now (file .entry)) head f K A → Fit (programOf (now (file .entry))) (running (controlIs from) calm f η K A) → Ends taken (runOf (programOf (now (file .entry))) (allowed - taken) (running (controlIs from) calm f η K A)) (r .outcome) (r .steps) (now (m .exit)) R) ⌝ }
+{
+    let mut c = from;
+    let mut h = head;
+    let mut steps = taken;
+    while steps < allowed {
+        match run_step::step(file, starts, m, c, h) {
+            Stepped::Went(next, on) => {
+                c = next;
+                h = on;
+                steps += 1;
+            }
+            Stepped::Full => return stop(m, c, h, Outcome::Full, steps),
+            Stepped::Returned(word) => return finish(m, word, steps + 1, allowed),
+            Stepped::Arith => return fail(m, 5, Outcome::Arith, steps + 1),
+            Stepped::Abort => return fail(m, 6, Outcome::Abort, steps + 1),
+        }
+    }
+    stop(m, c, h, Outcome::Spent, steps)
+}
+
+// A run from the int that main has returned.
+fn conclude(m: &mut [u32], word: u32, allowed: u64) -> Ran
+    requires { ⌜ 16384 ≤ length (now m) ⌝ }
+    ensures { λ r. ⌜ ((P : Program) (R : List ℕ) → now (m .entry) ≡ image (machine.returned calm word) ++ R → Ends 0 (runOf P allowed (machine.returned calm word)) (r .outcome) (r .steps) (now (m .exit)) R) ⌝ }
+{
+    m[0] = 0;
+    m[1] = 0;
+    finish(m, word, 0, allowed)
+}
+
+// A run from main() with nothing waiting.
+fn begin(file: &[u8], m: &mut [u32], allowed: u64) -> Ran
+    requires { ⌜ Begins (now file) (now m) × (16384 ≤ length (now m)) ⌝ }
+    ensures { λ r. ⌜ ((R : List ℕ) → now (m .entry) ≡ image (machine.main calm) ++ R → Ends 0 (runOf (programOf (now (file .entry))) allowed (machine.main calm)) (r .outcome) (r .steps) (now (m .exit)) R) ⌝ }
+{
+    if allowed == 0 {
+        return Ran {
+            outcome: Outcome::Spent,
+            steps: 0,
+        };
+    }
+    let starts = starts_of(file);
+    let start = starts[0];
+    let count = count_of(file, 0);
+    m[0] = 0;
+    m[1] = 0;
+    state_stack::head::enter_main(m, 0, wide(vars_of(file, 0)));
+    let c = Control::Exec(run_rules::calling::body_of(file, start, count));
+    let h = Head {
+        function: 0,
+        start,
+        count,
+        callers: 0,
+        frames: 0,
+        under: 0,
+    };
+    go(file, &starts, m, c, h, 1, allowed)
+}
+
+// A run from a running state: its head is taken out of the memory.
+fn proceed(file: &[u8], m: &mut [u32], allowed: u64) -> Ran
+    requires { ⌜ Proceeds (now file) (now m) × (16384 ≤ length (now m)) ⌝ }
+    ensures { λ r. ⌜ ((c : machine.Control) (f : ℕ) (η : List values.Value) (K : List Frame) (A : List Saved) (R : List ℕ) → now (m .entry) ≡ image (running c calm f η K A) ++ R → Fit (programOf (now (file .entry))) (running c calm f η K A) → Ends 0 (runOf (programOf (now (file .entry))) allowed (running c calm f η K A)) (r .outcome) (r .steps) (now (m .exit)) R) ⌝ }
+{
+    let starts = starts_of(file);
+    let callers = m[2] as usize - 1;
+    let c = state_words::control_of(m[3], m[4]);
+    let function = state_words::activations::activation_word(m, callers, 0) as usize;
+    let frames = state_words::activations::activation_word(m, callers, 1) as usize;
+    let total = state_words::activations::frames_held(m, callers + 1);
+    let h = Head {
+        function,
+        start: starts[function],
+        count: count_of(file, function),
+        callers,
+        frames,
+        under: total - frames,
+    };
+    state_stack::head::clear_head(m, callers);
+    go(file, &starts, m, c, h, 0, allowed)
+}
+
+// Runs the state in the memory, up to so many rules.
+pub fn run(file: &[u8], m: &mut [u32], allowed: u64) -> Ran
+    requires { ⌜ Held (now file) (now m) × (16384 ≤ length (now m)) ⌝ }
+    ensures { λ r. ⌜ ((s : State) (R : List ℕ) → now (m .entry) ≡ image s ++ R → Fit (programOf (now (file .entry))) s → Ends 0 (runOf (programOf (now (file .entry))) allowed s) (r .outcome) (r .steps) (now (m .exit)) R) ⌝ }
+{
+    let tag = m[0];
+    let word = m[1];
+    match tag {
+        1 => begin(file, m, allowed),
+        2 => proceed(file, m, allowed),
+        3 => conclude(m, word, allowed),
+        4 => Ran {
+            outcome: Outcome::Value(signed(word)),
+            steps: 0,
+        },
+        5 => Ran {
+            outcome: Outcome::Arith,
+            steps: 0,
+        },
+        _ => Ran {
+            outcome: Outcome::Abort,
+            steps: 0,
+        },
+    }
+}

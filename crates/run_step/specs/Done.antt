@@ -1,0 +1,75 @@
+-- A fit state at which a run stands, and what its step comes to.
+use mathlib.Core.Path.{_≡_}
+use mathlib.Core.Bool.{Bool, true, false}
+use mathlib.Core.List.{List, _++_}
+use Prim.Native.Nat.{ℕ, _+_, _*_, _≤_, _<_}
+use lib.ListN.{length}
+use Rattle.records.specs.Fields.{functions, kindAt, aAt, bAt}
+use Rattle.records.specs.Children.{arityAt}
+use Rattle.spec_language.specs.Check.{accepted, checkOf}
+use Rattle.spec_machine.specs.Values.{Value}
+use Rattle.spec_machine.specs.Program.{Ref, node, ifOf, seqOf}
+use Rattle.spec_machine.specs.Machine.{Frame, Control, Saved, calm, running}
+use Rattle.spec_machine.specs.Next.{Move, stuck, goes}
+use Rattle.spec_machine.specs.Fit.{Fit}
+use Rattle.spec_machine.specs.File.{programOf}
+use Rattle.spec_image.specs.Core.{core}
+use Rattle.state_words.specs.declared.Value as code
+use Rattle.state_words.specs.declared.Value.the-variants.{Nothing, Int, Truth}
+use Rattle.run_rules.specs.declared.Head.{Head}
+use Rattle.run_rules.specs.declared.Stepped.{Stepped}
+use Rattle.run_rules.specs.Comes.{Tells, Comes}
+use Rattle.records.specs.Starts.{Starts}
+
+-- a value that is an int, or a bool
+abbrev pub IsInt : code.Value → Type 0
+IsInt Nothing = ⊥
+IsInt (Int n) = Unit {0}
+IsInt (Truth b) = ⊥
+
+abbrev pub IsTruth : code.Value → Type 0
+IsTruth Nothing = ⊥
+IsTruth (Int n) = ⊥
+IsTruth (Truth b) = Unit {0}
+
+-- node i of a part t of the file s stands in it after its children, and its fields name a variable or a function
+pub record Node (s t : List ℕ) (i : ℕ) : Type 0 where
+  pub inside : 12 * i + 12 ≤ length t
+  pub few : i < 4096
+  pub child : 0 < arityAt t i → 0 < i
+  pub variable : kindAt t i ≡ 2 → bAt t i < 64
+  pub arguments : kindAt t i ≡ 5 → aAt t i ≤ 8
+  pub callee : kindAt t i ≡ 5 → bAt t i < functions s
+
+-- the seq in the if that a while equals, or that if
+abbrev pub inLoop : Bool → ℕ → Ref
+inLoop true w = seqOf w
+inLoop false w = ifOf w
+
+-- the node of a reference stands in a part t after its children
+abbrev pub Inside : List ℕ → ℕ → Type 0
+Inside t i = (12 * i + 12 ≤ length t) × (i < 4096) × (0 < i)
+
+-- the statement of a reference stands in a part t
+abbrev pub Executes : List ℕ → Ref → Type 0
+Executes t (node i) = Inside t i × (7 ≤ kindAt t i) × (kindAt t i ≤ 14) × (kindAt t i ≡ 9 → bAt t i < 64)
+Executes t Ref.nop = Unit {0}
+Executes t (ifOf w) = Inside t w × (kindAt t w ≡ 11)
+Executes t (seqOf w) = Inside t w × (kindAt t w ≡ 11)
+
+-- the file is accepted, and the memory l and the head h hold a fit state with the control c
+pub record Stands (s table : List ℕ) (c : Control) (h : Head) (l : List ℕ) : Type 0 where
+  pub passed : checkOf s ≡ accepted
+  pub starts : Starts s table
+  pub variables : List Value
+  pub frames : List Frame
+  pub callers : List Saved
+  pub rest : List ℕ
+  pub held : l ≡ core (h .function) variables frames callers ++ rest
+  pub tells : Tells s h (h .function) frames callers
+  pub fit : Fit (programOf s) (running c calm (h .function) variables frames callers)
+
+-- the step of a move, which is not stuck
+abbrev pub Done : List ℕ → Stepped → List ℕ → List ℕ → List ℕ → Move → Type 0
+Done s r l m R stuck = ⊥
+Done s r l m R (goes rule t) = Comes s r l m R t

@@ -1,0 +1,1 @@
+// What each entry point answers and leaves in the memory, as definitions.

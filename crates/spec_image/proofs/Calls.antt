@@ -1,0 +1,200 @@
+-- Functions entered and left while a state runs.
+use mathlib.Core.Path.{_≡_, refl, sym, ap, _∙_}
+use mathlib.Core.List.{List, [], _∷_, _++_, append-assoc}
+use Prim.Native.Nat.{ℕ, suc, _+_, _*_, _-_, _≤_, _<_}
+use native.Mathlib.Nat.{add-zero}
+use native.Mathlib.Omega.{arith}
+use lib.ListN.{length, getD, set, take, drop, replicate, length-append, length-replicate, replicate-append-replicate}
+use Rattle.words.specs.Blocks.{puts}
+use Rattle.spec_machine.specs.Values.{Value, nothing, Ty}
+use Rattle.spec_machine.specs.Program.{Head}
+use Rattle.spec_machine.specs.Machine.{Frame, gather, Saved, saved, blank}
+use Rattle.spec_image.specs.Layout.{filled, valueWords, valuesWords, Activation, activation, activationWords}
+use Rattle.spec_image.specs.Image.{savedActivations, savedFrames}
+use Rattle.spec_image.specs.Core.{core}
+use Rattle.spec_image.proofs.Images.{length-saved}
+use Rattle.spec_image.proofs.Slots.{values-one, blank-values}
+use Rattle.spec_image.proofs.Rooms.{rooms, filled-is, frame-pop, frame-part, frames-pop, activation-push, activation-pop, caller-word}
+use Rattle.spec_image.proofs.Frames.{core-rooms, pop-frame}
+use Rattle.spec_image.proofs.Operands.{gather-values}
+use Rattle.spec_image.proofs.Variables.{activation-words, rooms-values, rooms-count}
+use Rattle.spec_image.proofs.Heads.{empty-rooms}
+
+-- the variables that are no parameters have nothing
+pub blank-is : (ts : List Ty) → blank ts ≡ replicate (length ts) nothing
+blank-is [] = refl
+blank-is (t ∷ ts) = ap (λ (l : List Value). nothing ∷ l) (blank-is ts)
+
+-- ---- the parts
+
+-- an activation with nothing in its variables
+blank-activation : (g c : ℕ) → c ≤ 64 → activationWords (activation g 0 (replicate c nothing)) ≡ filled 136 (g ∷ 0 ∷ c ∷ [])
+blank-activation g c h =
+    let n : length (replicate {A = Value} c nothing) ≡ c = length-replicate c nothing in
+    let m : 2 * c + (128 - 2 * c) ≡ 128 = omega arith in
+    let z : replicate {A = ℕ} (2 * c) 0 ++ replicate (128 - 2 * c) 0 ≡ replicate 128 0
+    = replicate-append-replicate (2 * c) (128 - 2 * c) 0 ∙ ap (λ (k : ℕ). replicate {A = ℕ} k 0) m in
+    activation-words g 0 (replicate c nothing) (omega arith) ∙ rw (n, blank-values c, z) (sym (filled-is 136 (g ∷ 0 ∷ c ∷ []) (omega arith)))
+
+module _ (H R : List ℕ) (X : List Activation) (F : List Frame) (head : length H ≡ 128) (a : ℕ) (count : a ≡ length X) where
+  -- a function's activation is laid on the top, by its first three words
+  pub rooms-enter : (g c : ℕ) → a < 32 → c ≤ 64
+      → puts (rooms H X F ++ R) (128 + a * 136) 0 (g ∷ 0 ∷ c ∷ []) ≡ rooms H (activation g 0 (replicate c nothing) ∷ X) F ++ R
+  rooms-enter g c room short =
+      activation-push H R X F head a count (activation g 0 (replicate c nothing)) (g ∷ 0 ∷ c ∷ []) room (omega arith) (blank-activation g c short)
+
+  -- its first variables get values
+  pub rooms-arguments : (g : ℕ) (vs : List Value) (c l : ℕ) → c ≡ length vs + l → c ≤ 64
+      → puts (rooms H (activation g 0 (replicate c nothing) ∷ X) F ++ R) (128 + a * 136 + 8) 0 (valuesWords vs)
+      ≡ rooms H (activation g 0 (vs ++ replicate l nothing) ∷ X) F ++ R
+  rooms-arguments g vs c l e short =
+      let s : replicate {A = Value} c nothing ≡ replicate (length vs) nothing ++ replicate l nothing
+      = rw e (sym (replicate-append-replicate (length vs) l nothing)) in
+      let n : length (replicate {A = Value} (length vs) nothing) ≡ length vs = length-replicate (length vs) nothing in
+      let m : length (replicate {A = Value} (length vs) nothing ++ replicate l nothing) ≤ 64
+      = rw (← s, length-replicate {A = Value} c nothing) short in
+      rw s (rooms-values H R X F head a count g 0 [] (replicate (length vs) nothing) vs (replicate l nothing) n m)
+
+module _ (H R : List ℕ) (X : List Activation) (F : List Frame) (head : length H ≡ 128) (a : ℕ) (count : a ≡ length X) where
+  -- its first variables get the values in the top frame and one at hand, and the frame is taken off
+  rooms-copied : (g : ℕ) (h : Head) (vs : List Value) (v : Value) (c l w here s n at : ℕ) → a < 32 → c ≤ 64 → c ≡ length vs + suc l → length vs ≤ 7
+      → w ≡ length vs * 2 → here ≡ 128 + a * 136 → s ≡ here + (8 + length vs * 2) → n ≡ length F → at ≡ 4480 + n * 20 → n < 512
+      → let m = rooms H (activation g 0 (replicate c nothing) ∷ X) (gather h vs [] ∷ F) ++ R in
+      puts (puts (puts m (here + 8) 0 (take w (drop (at + 4) m))) s 0 (valueWords v)) at 0 (replicate 20 0)
+      ≡ rooms H (activation g 0 ((vs ++ (v ∷ [])) ++ replicate l nothing) ∷ X) F ++ R
+  rooms-copied g h vs v c l w here s n at room short hc hv hw new hs under top fewer =
+      let e : w ≡ 2 * length vs = omega arith in
+      let d : s ≡ 128 + a * 136 + (8 + 2 * length vs) = omega arith in
+      let j : length vs + length {A = ℕ} [] ≤ 7 = omega arith in
+      let y : suc (length X) ≤ 32 = omega arith in
+      let i : length (vs ++ ((nothing ∷ []) ++ replicate l nothing)) ≤ 64
+      = omega (arith, short, hc, length-append vs ((nothing ∷ []) ++ replicate l nothing), length-replicate l nothing) in
+      let p = frame-part H R (activation g 0 (replicate c nothing) ∷ X) F head y n under (gather h vs []) 4 (2 * length vs) (omega arith) ∙ gather-values h vs [] j in
+      let q = rooms-arguments H R X (gather h vs [] ∷ F) head a count g vs c (suc l) hc short in
+      let r = rooms-values H R X (gather h vs [] ∷ F) head a count g 0 vs (nothing ∷ []) (v ∷ []) (replicate l nothing) refl i in
+      rw (e, d, new, top, p, q, rw (values-one v) at r, append-assoc vs (v ∷ []) (replicate l nothing))
+      (frame-pop H R (activation g 0 (vs ++ ((v ∷ []) ++ replicate l nothing)) ∷ X) F head y n under (gather h vs []) fewer)
+
+-- ---- entered
+
+module _ (f : ℕ) (η : List Value) (K : List Frame) (A : List Saved) (R : List ℕ) (a b here : ℕ)
+    (count : a ≡ length A) (old : b ≡ 128 + a * 136 + 1) (new : here ≡ 128 + (a + 1) * 136) where
+  module _ (k g c : ℕ) (frames : k ≡ length K) (room : a + 1 < 32) (short : c ≤ 64) where
+    -- the frame count is stored, and the new activation's first three words, whatever the frames are
+    entering : (F : List Frame)
+        → puts (set (rooms (replicate 128 0) (activation f 0 η ∷ savedActivations A) F ++ R) b k) here 0 (g ∷ 0 ∷ c ∷ [])
+        ≡ rooms (replicate 128 0) (activation g 0 (replicate c nothing) ∷ savedActivations (saved f η K ∷ A)) F ++ R
+    unfolding savedActivations
+    entering F =
+        rw (old, new, frames, rooms-count (replicate 128 0) R (savedActivations A) F (length-replicate {A = ℕ} 128 0) a (count ∙ sym (length-saved A)) f 0 η (length K))
+        (rooms-enter (replicate 128 0) R (activation f (length K) η ∷ savedActivations A) F (length-replicate {A = ℕ} 128 0) (a + 1)
+        (omega (arith, count, length-saved A)) g c room short)
+
+    -- without arguments
+    pub enter-none : puts (set (core f η K A ++ R) b k) here 0 (g ∷ 0 ∷ c ∷ []) ≡ core g (replicate c nothing) [] (saved f η K ∷ A) ++ R
+    unfolding savedFrames
+    enter-none =
+        rw (core-rooms f η K A, core-rooms g (replicate c nothing) [] (saved f η K ∷ A)) (entering (K ++ savedFrames A))
+
+    module _ (n at : ℕ) (under : n ≡ length (K ++ savedFrames A)) (top : at ≡ 4480 + n * 20) (fewer : n < 512) where
+      -- with arguments at hand: the frame is taken off first
+      pub enter : (fr : Frame) (us : List Value) (l : ℕ) → c ≡ length us + l
+          → puts (puts (set (puts (core f η (fr ∷ K) A ++ R) at 0 (replicate 20 0)) b k) here 0 (g ∷ 0 ∷ c ∷ [])) (here + 8) 0 (valuesWords us)
+          ≡ core g (us ++ replicate l nothing) [] (saved f η K ∷ A) ++ R
+      unfolding savedActivations savedFrames
+      enter fr us l e =
+          rw (
+            pop-frame f η K A R n at (omega arith) under top fr fewer,
+            enter-none,
+            new,
+            core-rooms g (replicate c nothing) [] (saved f η K ∷ A),
+            core-rooms g (us ++ replicate l nothing) [] (saved f η K ∷ A),
+          )
+          (rooms-arguments (replicate 128 0) R (activation f (length K) η ∷ savedActivations A) (K ++ savedFrames A) (length-replicate {A = ℕ} 128 0) (a + 1)
+          (omega (arith, count, length-saved A)) g us c l e short)
+
+      -- with arguments copied from the frame, and the last one at hand: the frame is taken off last
+      pub enter-copy : (h : Head) (vs : List Value) (v : Value) (l w s : ℕ) → c ≡ length vs + suc l → length vs ≤ 7 → w ≡ length vs * 2
+          → s ≡ here + (8 + length vs * 2) → let m = puts (set (core f η (gather h vs [] ∷ K) A ++ R) b k) here 0 (g ∷ 0 ∷ c ∷ []) in
+          puts (puts (puts m (here + 8) 0 (take w (drop (at + 4) m))) s 0 (valueWords v)) at 0 (replicate 20 0)
+          ≡ core g ((vs ++ (v ∷ [])) ++ replicate l nothing) [] (saved f η K ∷ A) ++ R
+      unfolding savedActivations savedFrames
+      enter-copy h vs v l w s hc hv hw hs =
+          rw (
+            core-rooms f η (gather h vs [] ∷ K) A,
+            entering (gather h vs [] ∷ (K ++ savedFrames A)),
+            core-rooms g ((vs ++ (v ∷ [])) ++ replicate l nothing) [] (saved f η K ∷ A),
+          )
+          (rooms-copied (replicate 128 0) R (activation f (length K) η ∷ savedActivations A) (K ++ savedFrames A) (length-replicate {A = ℕ} 128 0) (a + 1)
+          (omega (arith, count, length-saved A)) g h vs v c l w here s n at room short hc hv hw new hs under top fewer)
+
+-- the function that is called first, in words that are zeros
+pub enter-main : (R : List ℕ) (z at g c : ℕ) → z ≡ 16384 → at ≡ 128 → c ≤ 64
+    → puts (replicate z 0 ++ R) at 0 (g ∷ 0 ∷ c ∷ []) ≡ core g (replicate c nothing) [] [] ++ R
+unfolding savedActivations savedFrames
+enter-main R z at g c all place short =
+    rw (place, ← empty-rooms z all, core-rooms g (replicate c nothing) [] [])
+    (rooms-enter (replicate 128 0) R [] [] (length-replicate {A = ℕ} 128 0) 0 refl g c (omega arith) short)
+
+-- ---- left
+
+module _ (f : ℕ) (η : List Value) (J : List Frame) (R : List ℕ) where
+  -- the caller's function
+  pub caller-function : (g : ℕ) (θ : List Value) (L : List Frame) (A : List Saved) (a b : ℕ) → a ≡ length A → b ≡ 128 + a * 136
+      → getD (core f η J (saved g θ L ∷ A) ++ R) b 0 ≡ g
+  unfolding savedActivations activationWords filled
+  caller-function g θ L A a b count old =
+      rw (old, core-rooms f η J (saved g θ L ∷ A))
+      (rw (add-zero (128 + a * 136)) at
+      (caller-word (replicate 128 0) R (savedActivations A) (J ++ savedFrames (saved g θ L ∷ A)) (length-replicate {A = ℕ} 128 0) a (count ∙ sym (length-saved A))
+      (activation g (length L) θ) (activation f 0 η) 0 (omega arith)))
+
+  -- the caller's frame count
+  pub caller-count : (g : ℕ) (θ : List Value) (L : List Frame) (A : List Saved) (a b : ℕ) → a ≡ length A → b ≡ 128 + a * 136 + 1
+      → getD (core f η J (saved g θ L ∷ A) ++ R) b 0 ≡ length L
+  unfolding savedActivations activationWords filled
+  caller-count g θ L A a b count old =
+      rw (old, core-rooms f η J (saved g θ L ∷ A))
+      (caller-word (replicate 128 0) R (savedActivations A) (J ++ savedFrames (saved g θ L ∷ A)) (length-replicate {A = ℕ} 128 0) a (count ∙ sym (length-saved A))
+      (activation g (length L) θ) (activation f 0 η) 1 (omega arith))
+
+  module _ (g : ℕ) (θ : List Value) (L : List Frame) (A : List Saved) (n a at b here size : ℕ) (under : n ≡ length (L ++ savedFrames A)) (count : a ≡ length A)
+      (top : at ≡ 4480 + n * 20) (old : b ≡ 128 + a * 136 + 1) (new : here ≡ 128 + (a + 1) * 136) (sized : size ≡ length J * 20)
+      (room : a + 1 < 32) (fewer : length J + n ≤ 512) where
+    -- the frames are taken off, then the activation, and the caller's frame count is taken out
+    pub leave : set (puts (puts (core f η J (saved g θ L ∷ A) ++ R) at 0 (replicate size 0)) here 0 (replicate 136 0)) b 0 ≡ core g θ L A ++ R
+    unfolding savedActivations savedFrames
+    leave =
+        let Z : List ℕ = replicate 128 0 in
+        let z : length Z ≡ 128 = length-replicate {A = ℕ} 128 0 in
+        let X : List Activation = savedActivations A in
+        let i : suc (suc (length X)) ≤ 32 = omega (arith, room, count, length-saved A) in
+        let c : a + 1 ≡ suc (length X) = omega (arith, count, length-saved A) in
+        rw (
+          sized,
+          old,
+          new,
+          top,
+          core-rooms f η J (saved g θ L ∷ A),
+          core-rooms g θ L A,
+          frames-pop Z R (activation f 0 η ∷ activation g (length L) θ ∷ X) (L ++ savedFrames A) z i n under J fewer,
+          activation-pop Z R (activation g (length L) θ ∷ X) (L ++ savedFrames A) z (a + 1) c (activation f 0 η) room,
+        )
+        (rooms-count Z R X (L ++ savedFrames A) z a (count ∙ sym (length-saved A)) g (length L) θ 0)
+
+  -- the function that was called first is left: all words are zeros
+  pub leave-main : (size all at here : ℕ) → size ≡ length J * 20 → all ≡ 16384 → at ≡ 4480 → here ≡ 128 → length J ≤ 512
+      → puts (puts (core f η J [] ++ R) at 0 (replicate size 0)) here 0 (replicate 136 0) ≡ replicate all 0 ++ R
+  unfolding savedActivations savedFrames
+  leave-main size all at here sized every top new fewer =
+      let Z : List ℕ = replicate 128 0 in
+      let z : length Z ≡ 128 = length-replicate {A = ℕ} 128 0 in
+      rw (
+        sized,
+        top,
+        new,
+        ← empty-rooms all every,
+        core-rooms f η J [],
+        frames-pop Z R (activation f 0 η ∷ []) [] z (omega arith) 0 refl J (omega arith),
+      )
+      (activation-pop Z R [] [] z 0 refl (activation f 0 η) (omega arith))

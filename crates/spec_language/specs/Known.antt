@@ -1,0 +1,24 @@
+-- What questions 4, 7 and 8 show of a part's nodes, and the later questions lean on to be safe.
+use mathlib.Core.Path.{_≡_}
+use mathlib.Core.Bool.{Bool, true, _||_}
+use mathlib.Core.List.{List}
+use Prim.Native.Nat.{ℕ, _+_, _≤_, _<_}
+use lib.Dec.{eqb}
+use Rattle.records.specs.Fields.{kindAt, aAt, bAt, sizeAt}
+use Rattle.records.specs.Children.{arityAt}
+use Rattle.spec_language.specs.Scopes.{usesVariable}
+
+-- a kind whose b is a variable
+unfoldable pub namesVariable : ℕ → Bool
+namesVariable kind = usesVariable kind || eqb kind 9
+
+-- of n nodes of a part
+pub record Known (t : List ℕ) (n : ℕ) : Type 0 where
+  pub child : (i : ℕ) → i < n → 0 < arityAt t i → 0 < i
+  pub sized : (i : ℕ) → i < n → sizeAt t i ≤ i + 1
+  pub variable : (i : ℕ) → i < n → namesVariable (kindAt t i) ≡ true → bAt t i < 64
+  pub arguments : (i : ℕ) → i < n → kindAt t i ≡ 5 → aAt t i ≤ 8
+
+-- the calls among n nodes of a part are of the first F functions
+abbrev pub Calls : ℕ → List ℕ → ℕ → Type 0
+Calls F t n = (i : ℕ) → i < n → kindAt t i ≡ 5 → bAt t i < F

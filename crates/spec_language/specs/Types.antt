@@ -1,0 +1,61 @@
+-- Question 12: the type of each node, and the type that a node wants of each child.
+use mathlib.Core.Bool.{Bool, true, _||_, _&&_}
+use mathlib.Core.List.{List, [], _∷_}
+use Prim.Native.Nat.{ℕ, _+_, _/_, _%_, _^_}
+use lib.Dec.{eqb, ltb}
+use lib.ListN.{getD, length}
+use Rattle.varset.specs.Lowest.{pick}
+use Rattle.records.specs.Fields.{resultOf, paramsOf, maskOf, kindAt, aAt, bAt}
+use Rattle.spec_language.specs.Scopes.{declOf}
+
+-- the types are 0 nothing, 1 int, 2 bool; a statement's type stays unset
+abbrev pub unset : ℕ
+unset = 255
+
+-- any type will do
+abbrev pub any : ℕ
+any = 254
+
+-- the type of parameter k of function f
+unfoldable pub paramType : List ℕ → ℕ → ℕ → ℕ
+paramType s f k = 1 + maskOf s f / 2 ^ k % 2
+
+-- the type of variable x of function f, whose part t has n nodes: a parameter's, or its decl's
+unfoldable pub varType : List ℕ → ℕ → List ℕ → ℕ → ℕ → ℕ
+varType s f t n x = pick (ltb x (paramsOf s f)) (paramType s f x) (aAt t (declOf t n x))
+
+-- operators 10 to 15 give bool
+unfoldable pub operatorType : ℕ → ℕ
+operatorType a = pick (ltb a 10) 1 2
+
+-- the types of kinds 0 to 5: int, bool, variable, operator, &&, call
+unfoldable pub typesOf : List ℕ → ℕ → List ℕ → ℕ → ℕ → List ℕ
+typesOf s f t n i =
+    1 ∷ 2 ∷ varType s f t n (bAt t i) ∷ operatorType (aAt t i) ∷ 2 ∷ resultOf s (bAt t i) ∷ []
+
+-- the type of node i; kind 15 is the value nothing
+unfoldable pub typeAt : List ℕ → ℕ → List ℕ → ℕ → ℕ → ℕ
+typeAt s f t n i = pick (eqb (kindAt t i) 15) 0 (getD (typesOf s f t n i) (kindAt t i) unset)
+
+-- what a condition wants: its first child a bool
+unfoldable pub condition : ℕ → ℕ
+condition k = pick (eqb k 0) 2 any
+
+-- what kinds 0 to 13 want of child k
+unfoldable pub wantsOf : List ℕ → ℕ → List ℕ → ℕ → ℕ → ℕ → List ℕ
+wantsOf s f t n i k =
+    any ∷ any ∷ any ∷ 1 ∷ 2 ∷ paramType s (bAt t i) k ∷ any ∷ any ∷ varType s f t n (bAt t i) ∷ any
+    ∷ condition k ∷ condition k ∷ resultOf s f ∷ 2 ∷ []
+
+-- the type that node i wants of child k
+unfoldable pub wantAt : List ℕ → ℕ → List ℕ → ℕ → ℕ → ℕ → ℕ
+wantAt s f t n i k = getD (wantsOf s f t n i k) (kindAt t i) any
+
+-- a type is the one wanted
+unfoldable pub suits : ℕ → ℕ → Bool
+suits want type = eqb want any || eqb want type
+
+-- children, the last first, all have the types wanted: a child's number is how many stand before it
+unfoldable pub agree : (ℕ → ℕ) → (ℕ → ℕ) → List ℕ → Bool
+agree want type [] = true
+agree want type (c ∷ cs) = suits (want (length cs)) (type c) && agree want type cs

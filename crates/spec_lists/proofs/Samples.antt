@@ -1,0 +1,99 @@
+-- A list of calls on a sample file, by computation.
+use mathlib.Core.Path.{_≡_, refl}
+use mathlib.Core.Bool.{Bool, true, _&&_}
+use mathlib.Core.List.{List, [], _∷_, _++_}
+use Prim.Native.Nat.{ℕ, zero, suc, _<_}
+use native.Mathlib.Omega.{arith}
+use lib.Dec.{ltb}
+use lib.ListN.{getD, replicate}
+use borrow.Author.Tests.{ltb-true}
+use Rattle.records.proofs.Bools.{and-left, and-right}
+use Rattle.varset.specs.Lowest.{lowest}
+use Rattle.varset.specs.Sets as sets
+use Rattle.varset.specs.Sets.{without, both, either, less, below}
+use Rattle.records.specs.Bytes.{u16At, u32At}
+use Rattle.records.specs.Fields.{markAt, functions, nodes, resultOf, paramsOf, varsOf, maskOf, countOf, kindAt, aAt, bAt, sizeAt}
+use Rattle.records.specs.Parts.{sumOf, startOf, partOf}
+use Rattle.records.specs.Search.{firstOf, shift, orElse, firstIn, unless}
+use Rattle.records.specs.Build.{alone}
+use Rattle.records.specs.Build as build
+use Rattle.records.specs.Children.{arities, arityOf, arityAt, walk, children}
+use Rattle.spec_language.specs.Statements.{prior, last, shapes, shapeAt, readsFrom, readsOf, grow, statementIn, statementAt}
+use Rattle.spec_language.specs.Flow.{declares, leaves, missing, lacks, returns}
+use Rattle.spec_language.specs.Scopes.{declaresAt, declCount, declOf, under, usesVariable}
+use Rattle.spec_language.specs.Types.{paramType, varType, operatorType, typesOf, typeAt, condition, wantsOf, wantAt, suits, agree}
+use Rattle.spec_language.specs.Sorts.{differ, isExpression, wantsExpression, wrongSort}
+use Rattle.spec_language.specs.Records as records
+use Rattle.spec_language.specs.Records.{lengthOk, headerOk, recordsOk, functionOk, sumOk, mainOk}
+use Rattle.spec_language.specs.Nodes as nodes
+use Rattle.spec_language.specs.Nodes.{fieldsOk, nodeOk, sizeOk, wrongChild, misplaced, undeclared, firstUndeclared, outside, mistyped, answers}
+use Rattle.spec_language.specs.Check.{accepted, refused, originOf, inPart, partQuestions, questions, refuse, put, checkOf}
+use Rattle.arith.specs.Int as ints
+use Rattle.arith.specs.Operators as operators
+use Rattle.spec_machine.specs.Values.{int, result}
+use Rattle.spec_machine.specs.Program.{Ref, node}
+use Rattle.spec_machine.specs.Machine.{wait, exec, calm, State, main, running}
+use Rattle.spec_machine.specs.Run.{Outcome, Spent, runOf}
+use Rattle.spec_machine.specs.File.{backwards, kids, andOf, looks, lookAt, refAt, formOf, formAt, ifForm, seqForm, seeAt, unrolled, looped, stmtAt, typesFrom, funOf, programOf}
+use Rattle.spec_image.specs.Layout.{filled, bit, valueWords, valuesWords, nodesWords, refWord, block, gathering, frameWords, controlWords, activationWords}
+use Rattle.spec_image.specs.Image.{savedActivations, savedFrames, headWords, activationsOf, framesOf, image}
+use Rattle.spec_image.specs.Decode.{valueOf, valuesOf, nodesOf, refOf, operands, frames, frameOf, controlOf, activationOf, framesHeld, callersOf, runningOf, activationsIn, framesIn, states, stateOf}
+use Rattle.spec_image.specs.Memory.{fitWords}
+use Rattle.spec_answers.specs.Answers.{roomFor, imageIn, variableIn, startAnswer, memoryAnswer, lookVerdict, told, turned, answered, written, startMemory, runFrom, runAnswer, runMemory, lookAnswer}
+use Rattle.spec_lists.specs.Forms.{Given, Form}
+use Rattle.spec_lists.specs.Lists.{by-start, Calls, StoryOf}
+use Rattle.spec_lists.proofs.Lists.{whole-lists}
+
+-- decl#5(0, int, seq#4(assign#1(0, 5#0), return#3(x0#2)))
+abbrev file : List ℕ
+file = alone 1 6 (build.node 0 0 5 1 ++ build.node 8 0 0 2 ++ build.node 2 0 0 1 ++ build.node 12 0 0 2 ++ build.node 7 0 0 5 ++ build.node 9 1 0 6)
+
+-- a memory of other content, one word longer than an image
+abbrev dirty : List ℕ
+dirty = replicate 16385 7
+
+abbrev begun : List ℕ
+begun = startMemory file dirty
+
+-- start, a run of five steps, look-ups, a run with no file, a run to the end, a look-up after it; memory checks and a second start
+sample-list : (startAnswer file dirty ≡ accepted)
+    × (runAnswer file begun 5 ≡ told (record { outcome = Spent; steps = 5; state = running (exec Ref.nop) calm 0 (int 5 ∷ []) (wait (node 3) ∷ []) [] }))
+    × (lookAnswer file (runMemory file begun 5) 0 ≡ told (int 5))
+    × (lookAnswer file (runMemory file begun 5) 1 ≡ turned 17 0 0)
+    × (runAnswer [] (runMemory file begun 5) 9 ≡ turned 1 0 0)
+    × (runAnswer file (runMemory file begun 5) 9 ≡ told (record { outcome = Outcome.value 5; steps = 5; state = State.value 5 }))
+    × (lookAnswer file (runMemory file (runMemory file begun 5) 9) 0 ≡ turned 17 0 0)
+    × (memoryAnswer file dirty ≡ refused 16 0 0)
+    × (memoryAnswer file (runMemory file begun 5) ≡ accepted)
+    × (startAnswer file (runMemory file begun 5) ≡ accepted)
+unfolding lowest sets.has sets.none sets.with without both either less below u16At u32At markAt functions nodes resultOf paramsOf varsOf maskOf countOf kindAt aAt bAt sizeAt sumOf startOf partOf firstOf shift orElse firstIn unless arities arityOf arityAt walk children differ isExpression wantsExpression wrongSort prior last shapes shapeAt readsFrom readsOf grow statementIn statementAt declares leaves missing lacks returns declaresAt declCount declOf under usesVariable paramType varType operatorType typesOf typeAt condition wantsOf wantAt suits agree records.within lengthOk headerOk recordsOk functionOk sumOk mainOk nodes.fields fieldsOk nodeOk nodes.total sizeOk wrongChild nodes.some misplaced undeclared firstUndeclared outside mistyped answers originOf inPart partQuestions questions refuse put checkOf ints.int ints.wrap operators.addOf operators.subOf operators.mulOf operators.quotOf operators.remOf operators.shlOf operators.shrOf operators.andOf operators.orOf operators.xorOf operators.ltOf operators.leOf operators.gtOf operators.geOf operators.eqOf operators.neOf operators.noQuotient operators.divided operators.shifted operators.results operators.applied backwards kids andOf looks lookAt refAt formOf formAt ifForm seqForm seeAt unrolled looped stmtAt typesFrom funOf programOf result runOf filled bit valueWords valuesWords nodesWords refWord block gathering frameWords controlWords activationWords savedActivations savedFrames headWords activationsOf framesOf image valueOf valuesOf nodesOf refOf operands frames frameOf controlOf activationOf framesHeld callersOf runningOf activationsIn framesIn states stateOf fitWords roomFor imageIn variableIn startAnswer memoryAnswer lookVerdict answered written startMemory runFrom runAnswer runMemory lookAnswer
+sample-list = (refl, refl, refl, refl, refl, refl, refl, refl, refl, refl)
+
+-- whether all are bytes
+abbrev allBytes : List ℕ → Bool
+allBytes [] = true
+allBytes (b ∷ l) = ltb b 256 && allBytes l
+
+small : (l : List ℕ) → allBytes l ≡ true → (i : ℕ) → getD l i 0 < 256
+small [] h i = omega arith
+small (b ∷ l) h zero = ltb-true b 256 (and-left (ltb b 256) _ h)
+small (b ∷ l) h (suc i) = small l (and-right (ltb b 256) _ h) i
+
+abbrev bytes : Given
+bytes = record { bytes = file; small = small file refl }
+
+abbrev empty : Given
+empty = record { bytes = []; small = small [] refl }
+
+-- a run, a look-up, a refused run with no file, a memory check and a second start as one list, begun from a start: the theorem holds of it
+abbrev calls : List Calls
+calls =
+    record { kind = Form.run; given = record { file = bytes; number = 5 } }
+    ∷ record { kind = Form.look; given = record { file = bytes; number = 0 } }
+    ∷ record { kind = Form.run; given = record { file = empty; number = 9 } }
+    ∷ record { kind = Form.memory; given = bytes }
+    ∷ record { kind = Form.start; given = bytes } ∷ []
+
+sample-story : StoryOf begun calls bytes (record { state = main calm; history = [] })
+unfolding unless lengthOk questions refuse put memoryAnswer answered runAnswer
+sample-story = whole-lists bytes (record { state = main calm; history = [] }) begun (by-start dirty (sample-list .0)) calls ((λ t. refl), ((λ t. refl), ((λ t. absurd t), ((λ t. refl), ((λ t. refl), tt)))))

@@ -1,0 +1,259 @@
+-- The states that are fit.
+use mathlib.Core.Path.{_≡_}
+use mathlib.Core.Logic.{_⊎_}
+use mathlib.Core.Bool.{Bool, true, false, _||_, _&&_, not}
+use mathlib.Core.List.{List, [], _∷_, _++_, map}
+use Prim.Native.Nat.{ℕ, _+_, _^_, _≤_, _<_}
+use lib.ListN.{getD, length}
+use Rattle.varset.specs.Sets.{Set, with, both}
+use Rattle.records.specs.declared.Found.the-variants.{Nothing}
+use Rattle.spec_language.specs.Flow.{leaves, missing, lacks, returns}
+use Rattle.spec_machine.specs.Values.{Ty, tBool, Value, nothing, int, truth, typeV}
+use Rattle.spec_machine.specs.Program.{Head, op, fn, Ref, node, ifOf, seqOf, Look, const, apply, Form, Program, owns, typeN, varTypes, varType, wants, gives}
+use Rattle.spec_machine.specs.Machine.{Frame, gather, and, wait, branch, check, Control, val, eval, exec, Saved, saved, Ambient, State, exception, main, returned, running}
+
+-- the limits
+abbrev pub callerLimit : ℕ
+callerLimit = 32
+
+abbrev pub frameLimit : ℕ
+frameLimit = 512
+
+abbrev pub savedFrames : List Saved → ℕ
+savedFrames [] = 0
+savedFrames (saved g θ L ∷ A) = length L + savedFrames A
+
+abbrev pub Within : State → Type 0
+Within (State.value c) = Unit {0}
+Within (exception x) = Unit {0}
+Within (main α) = Unit {0}
+Within (returned α c) = Unit {0}
+Within (running c α f η K A) = (1 + length A ≤ callerLimit) × (length K + savedFrames A ≤ frameLimit)
+
+-- sorts: what an expression, what a statement of a function is
+abbrev pub isExpr : Look → Bool
+isExpr (const v) = true
+isExpr (Look.var x) = true
+isExpr (apply h ns) = true
+isExpr (Look.and n m) = true
+isExpr Look.stray = false
+
+abbrev pub isConst : Look → Bool
+isConst (const v) = true
+isConst (Look.var x) = false
+isConst (apply h ns) = false
+isConst (Look.and n m) = false
+isConst Look.stray = false
+
+abbrev pub isStmt : Form → Bool
+isStmt Form.nop = true
+isStmt (Form.seq a b) = true
+isStmt (Form.assign x n) = true
+isStmt (Form.decl x a) = true
+isStmt (Form.if n a b) = true
+isStmt (Form.while w n a) = true
+isStmt (Form.return n) = true
+isStmt (Form.assert n) = true
+isStmt (Form.expr n) = true
+isStmt Form.stray = false
+
+abbrev pub isNop : Form → Bool
+isNop Form.nop = true
+isNop (Form.seq a b) = false
+isNop (Form.assign x n) = false
+isNop (Form.decl x a) = false
+isNop (Form.if n a b) = false
+isNop (Form.while w n a) = false
+isNop (Form.return n) = false
+isNop (Form.assert n) = false
+isNop (Form.expr n) = false
+isNop Form.stray = false
+
+-- a statement of the function; a nop is known by no node
+abbrev pub owned : Program → ℕ → Ref → Bool
+owned P f (node n) = owns P f n && not (isNop (P .see f (node n)))
+owned P f Ref.nop = true
+owned P f (ifOf n) = owns P f n
+owned P f (seqOf n) = owns P f n
+
+abbrev pub IsExpr : Program → ℕ → ℕ → Type 0
+IsExpr P f n = (owns P f n ≡ true) × (isExpr (P .look f n) ≡ true)
+
+abbrev pub IsStmt : Program → ℕ → Ref → Type 0
+IsStmt P f r = (owned P f r ≡ true) × (isStmt (P .see f r) ≡ true)
+
+abbrev pub AllExpr : Program → ℕ → List ℕ → Type 0
+AllExpr P f [] = Unit {0}
+AllExpr P f (n ∷ ns) = IsExpr P f n × AllExpr P f ns
+
+-- the function has this variable
+abbrev pub Var : Program → ℕ → ℕ → Type 0
+Var P f x = x < length (varTypes (P .fun f))
+
+-- the program has this function
+abbrev pub Known : Program → ℕ → Type 0
+Known P f = f < P .funs
+
+-- one of the sixteen operators, or a function of the program
+abbrev pub KnownHead : Program → Head → Type 0
+KnownHead P (op o) = o < 16
+KnownHead P (fn g) = Known P g
+
+-- every variable that an expression, or a statement, reads has a value by then
+abbrev pub Reads : Program → ℕ → ℕ → Set → Type 0
+Reads P f n d = missing (P .reads f n) d ≡ Nothing
+
+abbrev pub Ok : Program → ℕ → Ref → Set → Type 0
+Ok P f r d = lacks (P .stmt f r) d ≡ Nothing
+
+-- the same of several expressions
+abbrev pub ReadsNodes : Program → ℕ → List ℕ → Set → Type 0
+ReadsNodes P f [] d = Unit {0}
+ReadsNodes P f (n ∷ ns) d = Reads P f n d × ReadsNodes P f ns d
+
+-- what a variable holds: nothing, or a value of its type
+abbrev pub Hold : Value → Ty → Type 0
+Hold v t = (v ≡ nothing) ⊎ (typeV v ≡ t)
+
+abbrev pub Holds : List Value → List Ty → Type 0
+Holds [] [] = Unit {0}
+Holds [] (t ∷ ts) = ⊥
+Holds (v ∷ vs) [] = ⊥
+Holds (v ∷ vs) (t ∷ ts) = Hold v t × Holds vs ts
+
+abbrev pub isSome : Value → Bool
+isSome nothing = false
+isSome (int n) = true
+isSome (truth b) = true
+
+-- the variables that hold values
+abbrev pub held : List Value → Set
+held η x = isSome (getD η x nothing)
+
+-- frames that are given no value: waiting statements alone
+abbrev pub TakesNone : Program → ℕ → List Frame → Type 0
+TakesNone P f [] = Unit {0}
+TakesNone P f (gather h vs ns ∷ K) = ⊥
+TakesNone P f (and n ∷ K) = ⊥
+TakesNone P f (wait r ∷ K) = IsStmt P f r × TakesNone P f K
+TakesNone P f (Frame.store x ∷ K) = ⊥
+TakesNone P f (branch a b ∷ K) = ⊥
+TakesNone P f (Frame.leave ∷ K) = ⊥
+TakesNone P f (check ∷ K) = ⊥
+TakesNone P f (Frame.discard ∷ K) = ⊥
+
+-- frames that are given a value of type t
+abbrev pub Takes : Program → ℕ → Ty → List Frame → Type 0
+Takes P f t [] = ⊥
+Takes P f t (gather h vs ns ∷ K) = (wants P h ≡ map typeV vs ++ (t ∷ map (typeN P f) ns)) × AllExpr P f ns × Takes P f (gives P h) K × KnownHead P h
+Takes P f t (and n ∷ K) = (t ≡ tBool) × IsExpr P f n × (typeN P f n ≡ tBool) × Takes P f tBool K
+Takes P f t (wait r ∷ K) = ⊥
+Takes P f t (Frame.store x ∷ K) = (t ≡ varType (P .fun f) x) × Var P f x × TakesNone P f K
+Takes P f t (branch a b ∷ K) = (t ≡ tBool) × IsStmt P f a × IsStmt P f b × TakesNone P f K
+Takes P f t (Frame.leave ∷ K) = (t ≡ P .fun f .result) × TakesNone P f K
+Takes P f t (check ∷ K) = (t ≡ tBool) × TakesNone P f K
+Takes P f t (Frame.discard ∷ K) = TakesNone P f K
+
+-- the control, over its frames
+abbrev pub Gives : Program → ℕ → Control → List Frame → Type 0
+Gives P f (val v) K = Takes P f (typeV v) K
+Gives P f (eval n) K = IsExpr P f n × (isConst (P .look f n) ≡ false) × Takes P f (typeN P f n) K
+Gives P f (exec r) K = IsStmt P f r × TakesNone P f K
+
+-- rule 13 followed through control and frames
+abbrev pub Flows : Program → ℕ → List Frame → Set → Type 0
+Flows P f [] d = Unit {0}
+Flows P f (gather h vs ns ∷ K) d = ReadsNodes P f ns d × Flows P f K d
+Flows P f (and n ∷ K) d = Reads P f n d × Flows P f K d
+Flows P f (wait r ∷ K) d = Ok P f r d × Flows P f K (leaves (P .stmt f r) d)
+Flows P f (Frame.store x ∷ K) d = Flows P f K (with d x)
+Flows P f (branch a b ∷ K) d = Ok P f a d × Ok P f b d × Flows P f K (both (leaves (P .stmt f a) d) (leaves (P .stmt f b) d))
+Flows P f (Frame.leave ∷ K) d = Flows P f K d
+Flows P f (check ∷ K) d = Flows P f K d
+Flows P f (Frame.discard ∷ K) d = Flows P f K d
+
+abbrev pub FlowsFrom : Program → ℕ → Control → List Frame → Set → Type 0
+FlowsFrom P f (val v) K d = Flows P f K d
+FlowsFrom P f (eval n) K d = Reads P f n d × Flows P f K d
+FlowsFrom P f (exec r) K d = Ok P f r d × Flows P f K (leaves (P .stmt f r) d)
+
+-- rule 14: some control or frame still to come returns
+abbrev pub comes : Program → ℕ → List Frame → Bool
+comes P f [] = false
+comes P f (gather h vs ns ∷ K) = comes P f K
+comes P f (and n ∷ K) = comes P f K
+comes P f (wait r ∷ K) = returns (P .stmt f r) || comes P f K
+comes P f (Frame.store x ∷ K) = comes P f K
+comes P f (branch a b ∷ K) = (returns (P .stmt f a) && returns (P .stmt f b)) || comes P f K
+comes P f (Frame.leave ∷ K) = true
+comes P f (check ∷ K) = comes P f K
+comes P f (Frame.discard ∷ K) = comes P f K
+
+abbrev pub comesFrom : Program → ℕ → Control → List Frame → Bool
+comesFrom P f (val v) K = comes P f K
+comesFrom P f (eval n) K = comes P f K
+comesFrom P f (exec r) K = returns (P .stmt f r) || comes P f K
+
+-- the saved callers of a running function: each wants its callee's result; main is entered over the empty caller
+abbrev pub Callers : Program → ℕ → List Saved → Type 0
+Callers P f [] = f ≡ 0
+Callers P f (saved g θ L ∷ A) =
+    Holds θ (varTypes (P .fun g)) × Takes P g (P .fun f .result) L × Flows P g L (held θ) × (comes P g L ≡ true) × Callers P g A × Known P g
+
+pub record Running (P : Program) (c : Control) (α : Ambient) (f : ℕ) (η : List Value) (K : List Frame) (A : List Saved) : Type 0 where
+  pub callers : Callers P f A
+  pub known : Known P f
+  pub holds : Holds η (varTypes (P .fun f))
+  pub frames : Gives P f c K
+  pub flows : FlowsFrom P f c K (held η)
+  pub returns : comesFrom P f c K ≡ true
+
+abbrev pub Proper : Program → State → Type 0
+Proper P (State.value c) = Unit {0}
+Proper P (exception x) = Unit {0}
+Proper P (main α) = Unit {0}
+Proper P (returned α c) = Unit {0}
+Proper P (running c α f η K A) = Running P c α f η K A
+
+-- every int is a word of 32 bits
+abbrev pub Word : Value → Type 0
+Word nothing = Unit {0}
+Word (int n) = n < 2 ^ 32
+Word (truth b) = Unit {0}
+
+abbrev pub Words : List Value → Type 0
+Words [] = Unit {0}
+Words (v ∷ vs) = Word v × Words vs
+
+abbrev pub FrameWords : List Frame → Type 0
+FrameWords [] = Unit {0}
+FrameWords (gather h vs ns ∷ K) = Words vs × FrameWords K
+FrameWords (and n ∷ K) = FrameWords K
+FrameWords (wait r ∷ K) = FrameWords K
+FrameWords (Frame.store x ∷ K) = FrameWords K
+FrameWords (branch a b ∷ K) = FrameWords K
+FrameWords (Frame.leave ∷ K) = FrameWords K
+FrameWords (check ∷ K) = FrameWords K
+FrameWords (Frame.discard ∷ K) = FrameWords K
+
+abbrev pub ControlWord : Control → Type 0
+ControlWord (val v) = Word v
+ControlWord (eval n) = Unit {0}
+ControlWord (exec r) = Unit {0}
+
+abbrev pub SavedWords : List Saved → Type 0
+SavedWords [] = Unit {0}
+SavedWords (saved g θ L ∷ A) = Words θ × FrameWords L × SavedWords A
+
+abbrev pub InWords : State → Type 0
+InWords (State.value c) = c < 2 ^ 32
+InWords (exception x) = Unit {0}
+InWords (main α) = Unit {0}
+InWords (returned α c) = c < 2 ^ 32
+InWords (running c α f η K A) = ControlWord c × Words η × FrameWords K × SavedWords A
+
+-- a fit state
+pub record Fit (P : Program) (s : State) : Type 0 where
+  pub words : InWords s
+  pub within : Within s
+  pub proper : Proper P s

@@ -1,0 +1,103 @@
+-- A program, as the machine sees it: one level of a node at a time.
+use mathlib.Core.Bool.{Bool}
+use mathlib.Core.List.{List, [], _∷_, _++_}
+use Prim.Native.Nat.{ℕ}
+use lib.Dec.{ltb}
+use lib.ListN.{getD}
+use Rattle.varset.specs.Lowest.{pick}
+use Rattle.spec_language.specs.Statements.{Read, Statement, Nop, Seq, Assign, Decl, If, While, Return, Assert, Expr}
+use Rattle.spec_machine.specs.Values.{Value, Ty, tNone, tInt, tBool, typeV}
+
+-- what gathers operands: an operator, or a function, by its number
+pub data Head : Type 0 where
+  op : ℕ → Head
+  fn : ℕ → Head
+
+-- a statement is known by its node; nop is one and the same; the if and the seq of a while by the while's node
+pub data Ref : Type 0 where
+  node : ℕ → Ref
+  nop : Ref
+  ifOf : ℕ → Ref
+  seqOf : ℕ → Ref
+
+-- one level of an expression, its parts by their nodes
+pub data Look : Type 0 where
+  const : Value → Look
+  var : ℕ → Look
+  apply : Head → List ℕ → Look
+  and : ℕ → ℕ → Look
+  stray : Look
+
+-- one level of a statement
+pub data Form : Type 0 where
+  nop : Form
+  seq : Ref → Ref → Form
+  assign : ℕ → ℕ → Form
+  decl : ℕ → Ref → Form
+  if : ℕ → Ref → Ref → Form
+  while : ℕ → ℕ → Ref → Form
+  return : ℕ → Form
+  assert : ℕ → Form
+  expr : ℕ → Form
+  stray : Form
+
+-- a function: its result type, the types of its parameters and of its other variables, and its body
+pub record Fun : Type 0 where
+  pub result : Ty
+  pub params : List Ty
+  pub locals : List Ty
+  pub body : Ref
+
+-- the tree of one level, from the reads of its expressions and the trees of its statements
+abbrev pub growF : (ℕ → List Read) → (Ref → Statement) → Form → Statement
+growF r g nop = Nop
+growF r g (seq a b) = Seq (g a) (g b)
+growF r g (assign x n) = Assign x (r n)
+growF r g (decl x a) = Decl x (g a)
+growF r g (if n a b) = If (r n) (g a) (g b)
+growF r g (while w n a) = While (r n) (g a)
+growF r g (return n) = Return (r n)
+growF r g (assert n) = Assert (r n)
+growF r g (expr n) = Expr (r n)
+growF r g stray = Nop
+
+-- nodes are numbered in each function from 0: how many there are, one level of each, the reads of an expression, the tree of a statement
+pub record Program : Type 0 where
+  pub edition : ℕ
+  pub funs : ℕ
+  pub fun : ℕ → Fun
+  pub nodes : ℕ → ℕ
+  pub look : ℕ → ℕ → Look
+  pub see : ℕ → Ref → Form
+  pub reads : ℕ → ℕ → List Read
+  pub stmt : ℕ → Ref → Statement
+
+-- the function has this node
+abbrev pub owns : Program → ℕ → ℕ → Bool
+owns P f n = ltb n (P .nodes f)
+
+abbrev pub varTypes : Fun → List Ty
+varTypes f = f .params ++ f .locals
+
+abbrev pub varType : Fun → ℕ → Ty
+varType f x = getD (varTypes f) x tNone
+
+-- operators take two ints, and 10 to 15 give bool
+abbrev pub wants : Program → Head → List Ty
+wants P (op o) = tInt ∷ tInt ∷ []
+wants P (fn f) = P .fun f .params
+
+abbrev pub gives : Program → Head → Ty
+gives P (op o) = pick (ltb o 10) tInt tBool
+gives P (fn f) = P .fun f .result
+
+-- the type of an expression of function f, by its one level
+abbrev pub typeL : Program → ℕ → Look → Ty
+typeL P f (const v) = typeV v
+typeL P f (var x) = varType (P .fun f) x
+typeL P f (apply h ns) = gives P h
+typeL P f (and n m) = tBool
+typeL P f stray = tNone
+
+abbrev pub typeN : Program → ℕ → ℕ → Ty
+typeN P f n = typeL P f (P .look f n)

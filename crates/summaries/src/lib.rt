@@ -1,1 +1,0 @@
-// How statements take any set of variables on, in words: definitions and laws; the code that fills them stands above.

@@ -1,5 +1,0 @@
-mod Ranges
-mod Filling
-pub mod Arms
-mod Stored
-pub mod Looking
