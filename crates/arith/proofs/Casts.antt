@@ -11,7 +11,7 @@ use mir.Syntax.{w32, w64}
 use mir.Val.{toZ, ofZ, SFits, Fits}
 use mir.ValLaws.{toZ-pos, toZ-ofZ}
 use Rattle.arith.specs.Int.{int, wrap}
-use Rattle.arith.proofs.Words.{low-int, int-fits, wrap-below}
+use Rattle.arith.proofs.WordInts.{low-int, int-fits, wrap-below}
 
 -- the integer that a word is read as, after it was stored
 pub stored : {x : ℤ} (a : ℕ) → a < 2 ^ 32 → x ≡ int a → toZ w32 (ofZ w32 x) ≡ int a

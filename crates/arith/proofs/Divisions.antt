@@ -15,7 +15,7 @@ use mir.ValLaws.{sfits-le}
 use Rattle.arith.specs.Int.{int, wrap}
 use Rattle.arith.specs.Operators.{shrOf, noQuotient, divided}
 use Rattle.arith.specs.declared.Applied.the-variants.{Int, Arith}
-use Rattle.arith.proofs.Words.{Read, low, high, reading, int-fits, wrap-int, wrap-ofZ}
+use Rattle.arith.proofs.WordInts.{Read, low, high, reading, int-fits, wrap-int, wrap-ofZ}
 use Rattle.arith.proofs.Casts.{stored, computed}
 
 -- a divisor and a dividend with a quotient

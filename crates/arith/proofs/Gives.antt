@@ -12,7 +12,7 @@ use Rattle.varset.specs.Lowest.{pick}
 use Rattle.arith.specs.Operators.{addOf, subOf, mulOf, quotOf, remOf, shlOf, shrOf, andOf, orOf, xorOf, noQuotient, divided, shifted, results, applied}
 use Rattle.arith.specs.declared.Applied.{Applied}
 use Rattle.arith.specs.declared.Applied.the-variants.{Int, Truth, Arith}
-use Rattle.arith.proofs.Words.{wrap-below}
+use Rattle.arith.proofs.WordInts.{wrap-below}
 
 -- an int that is a word, or arith
 abbrev pub GivesInt : Applied → Type 0

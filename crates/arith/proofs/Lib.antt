@@ -1,4 +1,4 @@
-pub mod Words
+pub mod WordInts
 pub mod Sums
 pub mod Casts
 pub mod Divisions

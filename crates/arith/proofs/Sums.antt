@@ -9,7 +9,7 @@ use lib.IntN.{ℤ, pos, negℤ, subℕ, _+ℤ_, _-ℤ_, _*ℤ_}
 use borrow.Author.Tests.{lt-ltb, le-ltb}
 use Rattle.arith.specs.Int.{wrap}
 use Rattle.arith.specs.Operators.{addOf, subOf, mulOf, shlOf}
-use Rattle.arith.proofs.Words.{Read, low, high, reading}
+use Rattle.arith.proofs.WordInts.{Read, low, high, reading}
 
 wrap-neg : (k x : ℕ) → (x + k) % 2 ^ 32 ≡ 0 → wrap (negℤ (pos k)) ≡ x % 2 ^ 32
 unfolding wrap

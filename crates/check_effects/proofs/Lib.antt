@@ -1,2 +1,2 @@
-pub mod Parts
+pub mod EffectParts
 pub mod Covering

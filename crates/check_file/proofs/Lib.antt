@@ -1,4 +1,4 @@
-pub mod Places
+pub mod FoundPlaces
 pub mod Walk
 pub mod Rounds
 pub mod Stages

@@ -7,8 +7,8 @@ use native.Mathlib.Decide.{decLt}
 use lib.ListN.{length, take, drop}
 use Rattle.records.specs.Fields.{functions, countOf}
 use Rattle.records.specs.Parts.{startOf, partOf, Laid}
-use Rattle.records.proofs.Parts.{part-taken, part-length, part-fits}
-use Rattle.spec_language.specs.Check.{accepted, partQuestions, put}
+use Rattle.records.proofs.PartWalks.{part-taken, part-length, part-fits}
+use Rattle.spec_language.specs.Check.{accepted, partQuestions, firstRefusal}
 use Rattle.spec_language.proofs.Accept.{none-asked, asked-part}
 use Rattle.check_pass.specs.Passed.{Clear}
 use Rattle.check_file.specs.Stages.{PartsWithin}
@@ -21,7 +21,7 @@ module _ (s : List ℕ) where
   pub cleared-none : Cleared 0
   cleared-none = record { at = λ k l. absurd (omega arith) }
 
-  pub cleared-all : (f F : ℕ) → F ≡ functions s → F ≤ f → Cleared f → put (partQuestions s 8 7) ≡ accepted
+  pub cleared-all : (f F : ℕ) → F ≡ functions s → F ≤ f → Cleared f → firstRefusal (partQuestions s 8 7) ≡ accepted
   cleared-all f F e l h = asked-part s 8 7 (λ q p r. none-asked s q (λ k m. h .at k (omega arith) q p (omega arith)))
 
 -- the parts of a file of at most k records have at most k nodes

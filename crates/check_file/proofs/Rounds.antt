@@ -9,7 +9,7 @@ use Rattle.records.specs.Parts.{partOf, Laid}
 use Rattle.records.specs.Search.{firstIn}
 use Rattle.records.specs.declared.Found.the-variants.{At, Nothing}
 use Rattle.spec_language.specs.Nodes.{nodeOk, sizeOk, answers}
-use Rattle.spec_language.specs.Check.{accepted, refused, inPart, partQuestions, refuse, put}
+use Rattle.spec_language.specs.Check.{accepted, refused, inPart, partQuestions, refuse, firstRefusal}
 use Rattle.spec_language.proofs.Facts.{known, calls}
 use Rattle.spec_language.proofs.Accept.{asked-none, all-pass}
 use Rattle.check_file.specs.Stages.{Ready}
@@ -36,21 +36,21 @@ ready s q l p h f k =
     (known s f (partOf s f) (countOf s f) l k seven eight, calls s f (partOf s f) (countOf s f) l k seven)
 
 module _ (s : List ℕ) (q : ℕ) where
-  round : q < 15 → put (partQuestions s (15 - q) q) ≡ refuse q (firstIn (inPart q s) (functions s) 0) (put (partQuestions s (15 - (q + 1)) (q + 1)))
-  unfolding partQuestions put
+  round : q < 15 → firstRefusal (partQuestions s (15 - q) q) ≡ refuse q (firstIn (inPart q s) (functions s) 0) (firstRefusal (partQuestions s (15 - (q + 1)) (q + 1)))
+  unfolding partQuestions firstRefusal
   round h =
       let e : 15 - q ≡ suc (15 - (q + 1)) = omega arith in
       let g : suc q ≡ q + 1 = omega arith in
-      ap (λ (m : ℕ). put (partQuestions s m q)) e ∙ ap (λ (k : ℕ). refuse q (firstIn (inPart q s) (functions s) 0) (put (partQuestions s (15 - (q + 1)) k))) g
+      ap (λ (m : ℕ). firstRefusal (partQuestions s m q)) e ∙ ap (λ (k : ℕ). refuse q (firstIn (inPart q s) (functions s) 0) (firstRefusal (partQuestions s (15 - (q + 1)) k))) g
 
-  pub round-found : (p x : ℕ) → q < 15 → firstIn (inPart q s) (functions s) 0 ≡ At p x → put (partQuestions s (15 - q) q) ≡ refused q p x
+  pub round-found : (p x : ℕ) → q < 15 → firstIn (inPart q s) (functions s) 0 ≡ At p x → firstRefusal (partQuestions s (15 - q) q) ≡ refused q p x
   unfolding refuse
   round-found p x h e = round h ∙ rw e
 
-  pub round-on : q < 15 → firstIn (inPart q s) (functions s) 0 ≡ Nothing → put (partQuestions s (15 - q) q) ≡ put (partQuestions s (15 - (q + 1)) (q + 1))
+  pub round-on : q < 15 → firstIn (inPart q s) (functions s) 0 ≡ Nothing → firstRefusal (partQuestions s (15 - q) q) ≡ firstRefusal (partQuestions s (15 - (q + 1)) (q + 1))
   unfolding refuse
   round-on h e = round h ∙ rw e
 
-  pub round-end : 15 ≤ q → put (partQuestions s (15 - q) q) ≡ accepted
-  unfolding partQuestions put
+  pub round-end : 15 ≤ q → firstRefusal (partQuestions s (15 - q) q) ≡ accepted
+  unfolding partQuestions firstRefusal
   round-end h = let e : 15 - q ≡ 0 = omega arith in rw e

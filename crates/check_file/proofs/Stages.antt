@@ -13,7 +13,7 @@ use Rattle.records.specs.Search.{firstOf, shift, unless}
 use Rattle.records.specs.declared.Found.{Found}
 use Rattle.records.specs.declared.Found.the-variants.{At, Nothing}
 use Rattle.spec_language.specs.Records.{lengthOk, headerOk, recordsOk, functionOk, sumOk, mainOk}
-use Rattle.spec_language.specs.Check.{refused, partQuestions, questions, refuse, put, checkOf}
+use Rattle.spec_language.specs.Check.{refused, partQuestions, questions, refuse, firstRefusal, checkOf}
 use Rattle.spec_language.proofs.Facts.{header-is, function-is, laid}
 use Rattle.spec_language.proofs.Accept.{all-pass}
 use Rattle.check_file.specs.Stages.{fromFour}
@@ -40,28 +40,28 @@ module _ (s : List ℕ) where
   abbrev four : Found
   four = firstOf (λ f. not (functionOk s f)) (functions s)
 
-  pub four-fails : (f x : ℕ) → four ≡ At f x → put (fromFour s) ≡ refused 4 (1 + f) x
-  unfolding fromFour put refuse shift
+  pub four-fails : (f x : ℕ) → four ≡ At f x → firstRefusal (fromFour s) ≡ refused 4 (1 + f) x
+  unfolding fromFour firstRefusal refuse shift
   four-fails f x e = rw e
 
-  pub five-fails : four ≡ Nothing → sumOk s ≡ false → put (fromFour s) ≡ refused 5 0 0
-  unfolding fromFour put refuse shift unless
+  pub five-fails : four ≡ Nothing → sumOk s ≡ false → firstRefusal (fromFour s) ≡ refused 5 0 0
+  unfolding fromFour firstRefusal refuse shift unless
   five-fails e g = rw (e, g)
 
-  pub six-fails : four ≡ Nothing → sumOk s ≡ true → mainOk s ≡ false → put (fromFour s) ≡ refused 6 1 0
-  unfolding fromFour put refuse shift unless
+  pub six-fails : four ≡ Nothing → sumOk s ≡ true → mainOk s ≡ false → firstRefusal (fromFour s) ≡ refused 6 1 0
+  unfolding fromFour firstRefusal refuse shift unless
   six-fails e g h = rw (e, g, h)
 
-  pub six-passes : four ≡ Nothing → sumOk s ≡ true → mainOk s ≡ true → put (fromFour s) ≡ put (partQuestions s 8 7)
-  unfolding fromFour put refuse shift unless
+  pub six-passes : four ≡ Nothing → sumOk s ≡ true → mainOk s ≡ true → firstRefusal (fromFour s) ≡ firstRefusal (partQuestions s 8 7)
+  unfolding fromFour firstRefusal refuse shift unless
   six-passes e g h = rw (e, g, h)
 
   pub not-twelves : (length s % 12 ≡ 0 → ⊥) → checkOf s ≡ refused 1 0 0
-  unfolding checkOf questions put refuse unless lengthOk
+  unfolding checkOf questions firstRefusal refuse unless lengthOk
   not-twelves n = rw (ne-eqb _ 0 n)
 
   pub too-short : length s % 12 ≡ 0 → length s < 36 → checkOf s ≡ refused 1 0 0
-  unfolding checkOf questions put refuse unless lengthOk
+  unfolding checkOf questions firstRefusal refuse unless lengthOk
   too-short e l = rw (eq-eqb _ 0 e, lt-leb 36 _ l)
 
   one-passes : length s % 12 ≡ 0 → 36 ≤ length s → lengthOk s ≡ true
@@ -69,15 +69,15 @@ module _ (s : List ℕ) where
   one-passes e l = rw (eq-eqb _ 0 e, le-leb 36 _ l)
 
   pub two-fails : length s % 12 ≡ 0 → 36 ≤ length s → headerOk s ≡ false → checkOf s ≡ refused 2 0 0
-  unfolding checkOf questions put refuse unless
+  unfolding checkOf questions firstRefusal refuse unless
   two-fails e l g = rw (one-passes e l, g)
 
   pub three-fails : length s % 12 ≡ 0 → 36 ≤ length s → headerOk s ≡ true → recordsOk s ≡ false → checkOf s ≡ refused 3 0 0
-  unfolding checkOf questions put refuse unless
+  unfolding checkOf questions firstRefusal refuse unless
   three-fails e l g h = rw (one-passes e l, g, h)
 
-  pub three-passes : length s % 12 ≡ 0 → 36 ≤ length s → headerOk s ≡ true → recordsOk s ≡ true → checkOf s ≡ put (fromFour s)
-  unfolding checkOf questions fromFour put refuse unless
+  pub three-passes : length s % 12 ≡ 0 → 36 ≤ length s → headerOk s ≡ true → recordsOk s ≡ true → checkOf s ≡ firstRefusal (fromFour s)
+  unfolding checkOf questions fromFour firstRefusal refuse unless
   three-passes e l g h = rw (one-passes e l, g, h)
 
 -- the sum over as many functions as the header says

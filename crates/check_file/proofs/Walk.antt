@@ -12,12 +12,12 @@ use Rattle.records.specs.Parts.{startOf, partOf, Laid}
 use Rattle.records.specs.Search.{shift}
 use Rattle.records.specs.declared.Found.{Found}
 use Rattle.records.specs.declared.Found.the-variants.{At, Nothing}
-use Rattle.records.proofs.Parts.{part-taken}
+use Rattle.records.proofs.PartWalks.{part-taken}
 use Rattle.spec_language.specs.Nodes.{answers}
 use Rattle.spec_language.specs.Check.{originOf, inPart}
-use Rattle.spec_language.specs.Known.{Known, Calls}
+use Rattle.spec_language.specs.Known.{Known, CallsKnown}
 use Rattle.check_file.specs.Stages.{Ready}
-use Rattle.check_file.proofs.Places.{Placed}
+use Rattle.check_file.proofs.FoundPlaces.{Placed}
 use Rattle.check_file.proofs.Passing.{part-room, part-asks}
 
 -- the part starts after all function records
@@ -32,7 +32,7 @@ module _ (s : List ℕ) (q : ℕ) (laid : Laid s) {F f start n : ℕ} (e : F ≡
   -- what the questions in a part ask
   pub asks : 7 ≤ q → Ready s q
       → (Laid s × (f < functions s))
-      × (((12 * n ≤ length taken) × (1 ≤ n) × (n ≤ 4096) × (7 ≤ q)) × (9 < q → Known taken n × Calls (functions s) taken n))
+      × (((12 * n ≤ length taken) × (1 ≤ n) × (n ≤ 4096) × (7 ≤ q)) × (9 < q → Known taken n × CallsKnown (functions s) taken n))
   asks m r =
       let p = part-asks s laid e l a b in
       let t : taken ≡ partOf s f = part-taken s f a b in

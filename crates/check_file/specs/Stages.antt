@@ -7,7 +7,7 @@ use Rattle.records.specs.Parts.{partOf}
 use Rattle.records.specs.Search.{firstOf, shift, unless}
 use Rattle.spec_language.specs.Records.{functionOk, sumOk, mainOk}
 use Rattle.spec_language.specs.Check.{Asked, ask, partQuestions}
-use Rattle.spec_language.specs.Known.{Known, Calls}
+use Rattle.spec_language.specs.Known.{Known, CallsKnown}
 
 -- questions 4 to 14
 unfoldable pub fromFour : List ℕ → List Asked
@@ -19,7 +19,7 @@ fromFour s =
 
 -- past question 9 the nodes of every function are known
 abbrev pub Ready : List ℕ → ℕ → Type 0
-Ready s q = 9 < q → (f : ℕ) → f < functions s → Known (partOf s f) (countOf s f) × Calls (functions s) (partOf s f) (countOf s f)
+Ready s q = 9 < q → (f : ℕ) → f < functions s → Known (partOf s f) (countOf s f) × CallsKnown (functions s) (partOf s f) (countOf s f)
 
 -- no part has more than k nodes
 abbrev pub PartsWithin : List ℕ → ℕ → Type 0

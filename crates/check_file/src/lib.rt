@@ -14,8 +14,8 @@ ghost use Rattle.records.specs.Parts.{Laid};
 ghost use Rattle.records.specs.Search.{firstIn};
 ghost use Rattle.spec_language.specs.Records.{headerOk, recordsOk};
 ghost use Rattle.spec_language.specs.Nodes.{answers};
-ghost use Rattle.spec_language.specs.Check.{accepted, put, partQuestions, inPart, checkOf};
-ghost use Rattle.spec_language.specs.Known.{Known, Calls};
+ghost use Rattle.spec_language.specs.Check.{accepted, firstRefusal, partQuestions, inPart, checkOf};
+ghost use Rattle.spec_language.specs.Known.{Known, CallsKnown};
 ghost use Rattle.check_file.specs.Answers.{says, Small};
 ghost use Rattle.check_file.specs.Stages.{fromFour, Ready, PartsWithin};
 
@@ -33,7 +33,7 @@ pub enum Answer {
 fn answer_in(file: &[u8], q: u8, f: usize, part: &[u8], n: usize) -> Found
     requires laid { ⌜ Laid (now file) × (f < functions (now file)) ⌝ }
     requires inside { ⌜ (12 * n ≤ length (now part)) × (1 ≤ n) × (n ≤ 4096) × (7 ≤ q) ⌝ }
-    requires known { ⌜ (9 < q → Known (now part) n × Calls (functions (now file)) (now part) n) ⌝ }
+    requires known { ⌜ (9 < q → Known (now part) n × CallsKnown (functions (now file)) (now part) n) ⌝ }
     ensures exact { λ r. ⌜ r ≡ getD (answers (now (file .entry)) f (now (part .entry)) n) (q - 7) Found.Nothing ⌝ }
     ensures small { λ r. ⌜ ((i x : ℕ) → r ≡ Found.At i x → (i < n) × (x < 64)) ⌝ }
 {
@@ -92,7 +92,7 @@ fn first_in_parts(file: &[u8], q: u8) -> Found
 fn parts_pass(file: &[u8], codes: &mut [u8], reads: &mut [u64], sets: &mut [u64]) -> bool
     requires laid { ⌜ Laid (now file) ⌝ }
     requires room { ⌜ PartsWithin (now file) (length (now codes)) × PartsWithin (now file) (length (now reads)) × PartsWithin (now file) (length (now sets)) ⌝ }
-    ensures { λ r. ⌜ (r ≡ true → put (partQuestions (now (file .entry)) 8 7) ≡ accepted) ⌝ }
+    ensures { λ r. ⌜ (r ≡ true → firstRefusal (partQuestions (now (file .entry)) 8 7) ≡ accepted) ⌝ }
 {
     let functions = function_count(file);
     let mut f = 0;
@@ -113,7 +113,7 @@ fn parts_pass(file: &[u8], codes: &mut [u8], reads: &mut [u64], sets: &mut [u64]
 // The same, with working arrays that have room for the nodes; every node's type is unset at first.
 fn file_passes(file: &[u8]) -> bool
     requires { ⌜ Laid (now file) × (length (now file) ≤ 50700) ⌝ }
-    ensures { λ r. ⌜ (r ≡ true → put (partQuestions (now (file .entry)) 8 7) ≡ accepted) ⌝ }
+    ensures { λ r. ⌜ (r ≡ true → firstRefusal (partQuestions (now (file .entry)) 8 7) ≡ accepted) ⌝ }
 {
     if file.len() <= 3072 {
         let mut types = [255u8; 256];
@@ -136,7 +136,7 @@ fn file_passes(file: &[u8]) -> bool
 // Questions 7 to 14.
 fn check_parts(file: &[u8]) -> Answer
     requires { ⌜ Laid (now file) × (length (now file) ≤ 50700) ⌝ }
-    ensures exact { λ r. ⌜ says r ≡ put (partQuestions (now (file .entry)) 8 7) ⌝ }
+    ensures exact { λ r. ⌜ says r ≡ firstRefusal (partQuestions (now (file .entry)) 8 7) ⌝ }
     ensures small { λ r. ⌜ Small r ⌝ }
 {
     if file_passes(file) {
@@ -159,7 +159,7 @@ fn check_parts(file: &[u8]) -> Answer
 // Questions 4 to 14.
 fn check_functions(file: &[u8]) -> Answer
     requires { ⌜ (36 ≤ length (now file)) × (headerOk (now file) ≡ true) × (recordsOk (now file) ≡ true) ⌝ }
-    ensures exact { λ r. ⌜ says r ≡ put (fromFour (now (file .entry))) ⌝ }
+    ensures exact { λ r. ⌜ says r ≡ firstRefusal (fromFour (now (file .entry))) ⌝ }
     ensures small { λ r. ⌜ Small r ⌝ }
 {
     let functions = function_count(file);

@@ -21,7 +21,7 @@ use Rattle.spec_language.specs.Types.{paramType, typesOf, typeAt, wantsOf, want
 use Rattle.spec_language.specs.Nodes.{total, outside}
 use Rattle.spec_language.proofs.Trees.{statement-rest}
 use Rattle.check_effects.specs.Effects.{Covers}
-use Rattle.check_effects.proofs.Parts.{nop-means}
+use Rattle.check_effects.proofs.EffectParts.{nop-means}
 use Rattle.check_effects.proofs.Covering.{AllCovered, covers-more, node-covered}
 use Rattle.check_pass.specs.Judged.{Kid, Kids, Judged, Filled}
 use Rattle.check_pass.proofs.Kids.{positive, kid-typed, suits-same}

@@ -11,11 +11,11 @@ use Rattle.spec_language.specs.Nodes.{nodeOk, sizeOk, misplaced, outside, misty
 use Rattle.spec_language.proofs.Facts.{named, arguments, calls}
 use Rattle.spec_language.proofs.Accept.{all-pass, pass-all, none-fails, none-unless, seven-to-fourteen}
 use Rattle.check_pass.specs.Surveyed.{Surveyed}
-use Rattle.check_pass.specs.Judged.{Part}
+use Rattle.check_pass.specs.Judged.{PartFacts}
 use Rattle.check_pass.specs.Passed.{Passed, Clear}
 
 module _ (s : List ℕ) (f : ℕ) (t : List ℕ) (n : ℕ) where
-  pub part-known : {decls : List ℕ} → Laid s → f < functions s → 12 * n ≤ length t → Surveyed s f t n decls → Part s f t n decls
+  pub part-known : {decls : List ℕ} → Laid s → f < functions s → 12 * n ≤ length t → Surveyed s f t n decls → PartFacts s f t n decls
   part-known g l h k =
       let seven = all-pass (nodeOk s f t) n (k .seven) in
       record { laid = g; function = l; inside = h; named = named s f t n g l seven; arguments = arguments s f t n g l seven; calls = calls s f t n g l seven; told = k .told }

@@ -17,7 +17,7 @@ use Rattle.spec_language.specs.Statements.{statementAt}
 use Rattle.spec_language.specs.Types.{typeAt, wantAt, agree}
 use Rattle.spec_language.specs.Nodes.{sizeOk, wrongChild, some, misplaced, mistyped}
 use Rattle.check_effects.specs.Effects.{Means}
-use Rattle.check_effects.proofs.Parts.{empty-member}
+use Rattle.check_effects.proofs.EffectParts.{empty-member}
 use Rattle.check_pass.specs.Judged.{Kids, Judged, Filled}
 use Rattle.check_pass.specs.Passed.{Passed}
 

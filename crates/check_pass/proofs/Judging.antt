@@ -19,7 +19,7 @@ use Rattle.spec_language.specs.Types.{varType, typesOf, typeAt, condition, want
 use Rattle.spec_language.specs.Nodes.{total, outside}
 use Rattle.spec_language.proofs.Trees.{statement-seq, statement-assign, statement-decl, statement-if, statement-while, statement-return, statement-assert, statement-expr, statement-rest}
 use Rattle.check_effects.specs.Effects.{Covers, Means}
-use Rattle.check_effects.proofs.Parts.{assign-means, return-means, assert-means, expr-means, nop-means}
+use Rattle.check_effects.proofs.EffectParts.{assign-means, return-means, assert-means, expr-means, nop-means}
 use Rattle.check_effects.proofs.Covering.{covers-more}
 use Rattle.check_pass.specs.Judged.{Judged, Filled, Leaf, Operator, Single}
 use Rattle.check_pass.proofs.Kids.{positive, kid-typed, kid-statement, judged, no-children, one-child, two-children, three-children, suits-same}

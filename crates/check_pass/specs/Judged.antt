@@ -14,7 +14,7 @@ use Rattle.spec_language.specs.Sorts.{isExpression, wantsExpression, wrongSort}
 use Rattle.spec_language.specs.Statements.{readsOf, statementAt}
 use Rattle.spec_language.specs.Types.{typeAt, wantAt, suits}
 use Rattle.spec_language.specs.Nodes.{total, outside}
-use Rattle.spec_language.specs.Known.{Calls}
+use Rattle.spec_language.specs.Known.{CallsKnown}
 use Rattle.check_scopes.specs.Counts.{Named, Decls}
 use Rattle.check_effects.specs.Effects.{Covers, Means}
 
@@ -44,18 +44,18 @@ pub record Filled (s : List ℕ) (f : ℕ) (t : List ℕ) (n : ℕ) (d : Set) (i
   pub at : (k : ℕ) → k < i → Judged s f t n d k (getD codes k 0) (getD reads k 0) (getD sets k 0)
 
 -- what is known of a part before the pass
-pub record Part (s : List ℕ) (f : ℕ) (t : List ℕ) (n : ℕ) (decls : List ℕ) : Type 0 where
+pub record PartFacts (s : List ℕ) (f : ℕ) (t : List ℕ) (n : ℕ) (decls : List ℕ) : Type 0 where
   pub laid : Laid s
   pub function : f < functions s
   pub inside : 12 * n ≤ length t
   pub named : Named t n
   pub arguments : (k : ℕ) → k < n → kindAt t k ≡ 5 → aAt t k ≤ 8
-  pub calls : Calls (functions s) t n
+  pub calls : CallsKnown (functions s) t n
   pub told : Decls t n decls
 
 -- what is known where the pass comes to node i
-pub record Ready (s : List ℕ) (f : ℕ) (t : List ℕ) (n : ℕ) (decls codes reads sets : List ℕ) (d : Set) (i : ℕ) : Type 0 where
-  pub part : Part s f t n decls
+pub record AtNode (s : List ℕ) (f : ℕ) (t : List ℕ) (n : ℕ) (decls codes reads sets : List ℕ) (d : Set) (i : ℕ) : Type 0 where
+  pub part : PartFacts s f t n decls
   pub below : i < n
   pub codeRoom : n ≤ length codes
   pub readRoom : n ≤ length reads

@@ -21,7 +21,7 @@ ghost use Rattle.varset.specs.Sets.{has};
 ghost use Rattle.records.specs.Fields.{functions, kindAt};
 ghost use Rattle.records.specs.Parts.{Laid};
 ghost use Rattle.check_pass.specs.Passed.{Passed, Clear};
-ghost use Rattle.check_pass.specs.Judged.{Judged, Part, Ready};
+ghost use Rattle.check_pass.specs.Judged.{Judged, PartFacts, AtNode};
 
 // A call.
 fn call_at(
@@ -36,7 +36,7 @@ fn call_at(
     seen: VarSet,
     i: usize,
 ) -> Effect
-    requires { ⌜ Ready (now file) f (now part) n (now decls) (now codes) (now reads) (now sets) (has (seen .0)) i × (kindAt (now part) i ≡ 5) ⌝ }
+    requires { ⌜ AtNode (now file) f (now part) n (now decls) (now codes) (now reads) (now sets) (has (seen .0)) i × (kindAt (now part) i ≡ 5) ⌝ }
     ensures { λ r. ⌜ (r .code < 255 → Judged (now (file .entry)) f (now (part .entry)) n (has (seen .0)) i (r .code) (r .reads .0) (r .sets .0)) ⌝ }
 {
     let callee = b_at(part, i) as usize;
@@ -72,7 +72,7 @@ fn node_at(
     seen: VarSet,
     i: usize,
 ) -> Effect
-    requires { ⌜ Ready (now file) f (now part) n (now decls) (now codes) (now reads) (now sets) (has (seen .0)) i ⌝ }
+    requires { ⌜ AtNode (now file) f (now part) n (now decls) (now codes) (now reads) (now sets) (has (seen .0)) i ⌝ }
     ensures { λ r. ⌜ (r .code < 255 → Judged (now (file .entry)) f (now (part .entry)) n (has (seen .0)) i (r .code) (r .reads .0) (r .sets .0)) ⌝ }
 {
     let kind = kind_at(part, i);
@@ -123,7 +123,7 @@ fn passes(
     reads: &mut [u64],
     sets: &mut [u64],
 ) -> bool
-    requires inside { ⌜ Part (now file) f (now part) n (now decls) × (1 ≤ n) × (n ≤ 4096) ⌝ }
+    requires inside { ⌜ PartFacts (now file) f (now part) n (now decls) × (1 ≤ n) × (n ≤ 4096) ⌝ }
     requires room { ⌜ (n ≤ length (now codes)) × (n ≤ length (now reads)) × (n ≤ length (now sets)) ⌝ }
     ensures shown { λ r. ⌜ (r ≡ true → Passed (now (file .entry)) f (now (part .entry)) n (has (begun .0))) ⌝ }
     ensures room { λ r. ⌜ (length (now (codes .exit)) ≡ length (now (codes .entry))) × (length (now (reads .exit)) ≡ length (now (reads .entry))) × (length (now (sets .exit)) ≡ length (now (sets .entry))) ⌝ }

@@ -12,7 +12,7 @@ ghost use Prim.Native.Nat.{ℕ, _+_, _*_, _-_, _≤_, _<_};
 ghost use lib.ListN.{length, getD};
 ghost use Rattle.varset.specs.Sets.{Set, has};
 ghost use Rattle.records.specs.Fields.{kindAt, sizeAt};
-ghost use Rattle.check_pass.specs.Judged.{Judged, Filled, Ready, Leaf, Operator, Single};
+ghost use Rattle.check_pass.specs.Judged.{Judged, Filled, AtNode, Leaf, Operator, Single};
 
 // The effect of node k, as the working arrays have it.
 pub fn effect_of(codes: &[u8], reads: &[u64], sets: &[u64], k: usize) -> Effect
@@ -67,7 +67,7 @@ pub fn leaf_at(
     i: usize,
     code: u8,
 ) -> Effect
-    requires { ⌜ Ready (now file) f (now part) n (now decls) (now codes) (now reads) (now sets) (has (seen .0)) i × (Leaf (now file) f (now part) n i code) ⌝ }
+    requires { ⌜ AtNode (now file) f (now part) n (now decls) (now codes) (now reads) (now sets) (has (seen .0)) i × (Leaf (now file) f (now part) n i code) ⌝ }
     ensures { λ r. ⌜ (r .code < 255 → Judged (now (file .entry)) f (now (part .entry)) n (has (seen .0)) i (r .code) (r .reads .0) (r .sets .0)) ⌝ }
 {
     guard(
@@ -89,7 +89,7 @@ pub fn variable_at(
     seen: VarSet,
     i: usize,
 ) -> Effect
-    requires { ⌜ Ready (now file) f (now part) n (now decls) (now codes) (now reads) (now sets) (has (seen .0)) i × (kindAt (now part) i ≡ 2) ⌝ }
+    requires { ⌜ AtNode (now file) f (now part) n (now decls) (now codes) (now reads) (now sets) (has (seen .0)) i × (kindAt (now part) i ≡ 2) ⌝ }
     ensures { λ r. ⌜ (r .code < 255 → Judged (now (file .entry)) f (now (part .entry)) n (has (seen .0)) i (r .code) (r .reads .0) (r .sets .0)) ⌝ }
 {
     let x = b_at(part, i);
@@ -115,7 +115,7 @@ pub fn operator_at(
     want: u8,
     code: u8,
 ) -> Effect
-    requires { ⌜ Ready (now file) f (now part) n (now decls) (now codes) (now reads) (now sets) (has (seen .0)) i × (Operator (now file) f (now part) n i want code) ⌝ }
+    requires { ⌜ AtNode (now file) f (now part) n (now decls) (now codes) (now reads) (now sets) (has (seen .0)) i × (Operator (now file) f (now part) n i want code) ⌝ }
     ensures { λ r. ⌜ (r .code < 255 → Judged (now (file .entry)) f (now (part .entry)) n (has (seen .0)) i (r .code) (r .reads .0) (r .sets .0)) ⌝ }
 {
     let b = minus(i, 1);
@@ -140,7 +140,7 @@ pub fn sequence_at(
     seen: VarSet,
     i: usize,
 ) -> Effect
-    requires { ⌜ Ready (now file) f (now part) n (now decls) (now codes) (now reads) (now sets) (has (seen .0)) i × (kindAt (now part) i ≡ 7) ⌝ }
+    requires { ⌜ AtNode (now file) f (now part) n (now decls) (now codes) (now reads) (now sets) (has (seen .0)) i × (kindAt (now part) i ≡ 7) ⌝ }
     ensures { λ r. ⌜ (r .code < 255 → Judged (now (file .entry)) f (now (part .entry)) n (has (seen .0)) i (r .code) (r .reads .0) (r .sets .0)) ⌝ }
 {
     let b = minus(i, 1);
@@ -167,7 +167,7 @@ pub fn assign_at(
     seen: VarSet,
     i: usize,
 ) -> Effect
-    requires { ⌜ Ready (now file) f (now part) n (now decls) (now codes) (now reads) (now sets) (has (seen .0)) i × (kindAt (now part) i ≡ 8) ⌝ }
+    requires { ⌜ AtNode (now file) f (now part) n (now decls) (now codes) (now reads) (now sets) (has (seen .0)) i × (kindAt (now part) i ≡ 8) ⌝ }
     ensures { λ r. ⌜ (r .code < 255 → Judged (now (file .entry)) f (now (part .entry)) n (has (seen .0)) i (r .code) (r .reads .0) (r .sets .0)) ⌝ }
 {
     let x = b_at(part, i);
@@ -195,7 +195,7 @@ pub fn scope_at(
     seen: VarSet,
     i: usize,
 ) -> Effect
-    requires { ⌜ Ready (now file) f (now part) n (now decls) (now codes) (now reads) (now sets) (has (seen .0)) i × (kindAt (now part) i ≡ 9) ⌝ }
+    requires { ⌜ AtNode (now file) f (now part) n (now decls) (now codes) (now reads) (now sets) (has (seen .0)) i × (kindAt (now part) i ≡ 9) ⌝ }
     ensures { λ r. ⌜ (r .code < 255 → Judged (now (file .entry)) f (now (part .entry)) n (has (seen .0)) i (r .code) (r .reads .0) (r .sets .0)) ⌝ }
 {
     let x = b_at(part, i);
@@ -220,7 +220,7 @@ pub fn branches_at(
     seen: VarSet,
     i: usize,
 ) -> Effect
-    requires { ⌜ Ready (now file) f (now part) n (now decls) (now codes) (now reads) (now sets) (has (seen .0)) i × (kindAt (now part) i ≡ 10) ⌝ }
+    requires { ⌜ AtNode (now file) f (now part) n (now decls) (now codes) (now reads) (now sets) (has (seen .0)) i × (kindAt (now part) i ≡ 10) ⌝ }
     ensures { λ r. ⌜ (r .code < 255 → Judged (now (file .entry)) f (now (part .entry)) n (has (seen .0)) i (r .code) (r .reads .0) (r .sets .0)) ⌝ }
 {
     let b = minus(i, 1);
@@ -249,7 +249,7 @@ pub fn loop_at(
     seen: VarSet,
     i: usize,
 ) -> Effect
-    requires { ⌜ Ready (now file) f (now part) n (now decls) (now codes) (now reads) (now sets) (has (seen .0)) i × (kindAt (now part) i ≡ 11) ⌝ }
+    requires { ⌜ AtNode (now file) f (now part) n (now decls) (now codes) (now reads) (now sets) (has (seen .0)) i × (kindAt (now part) i ≡ 11) ⌝ }
     ensures { λ r. ⌜ (r .code < 255 → Judged (now (file .entry)) f (now (part .entry)) n (has (seen .0)) i (r .code) (r .reads .0) (r .sets .0)) ⌝ }
 {
     let b = minus(i, 1);
@@ -277,7 +277,7 @@ pub fn single_at(
     want: u8,
     code: u8,
 ) -> Effect
-    requires { ⌜ Ready (now file) f (now part) n (now decls) (now codes) (now reads) (now sets) (has (seen .0)) i × (Single (now file) f (now part) n i want code) ⌝ }
+    requires { ⌜ AtNode (now file) f (now part) n (now decls) (now codes) (now reads) (now sets) (has (seen .0)) i × (Single (now file) f (now part) n i want code) ⌝ }
     ensures { λ r. ⌜ (r .code < 255 → Judged (now (file .entry)) f (now (part .entry)) n (has (seen .0)) i (r .code) (r .reads .0) (r .sets .0)) ⌝ }
 {
     let b = minus(i, 1);

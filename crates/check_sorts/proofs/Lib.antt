@@ -1,2 +1,2 @@
 pub mod Sorts
-pub mod Places
+pub mod LowestMisplaced

@@ -15,7 +15,7 @@ use Rattle.records.specs.Children.{arityAt, walk, children}
 use Rattle.spec_language.specs.Types.{typeAt, wantAt, suits, agree}
 use Rattle.spec_language.specs.Nodes.{mistyped}
 use Rattle.spec_language.specs.Known.{Known}
-use Rattle.check_types.specs.Types.{Typed}
+use Rattle.check_types.specs.Types.{NodesTyped}
 
 -- what is left of the children where j are left, the last of them c
 module _ (want type size : ℕ → ℕ) (j c : ℕ) where
@@ -54,7 +54,7 @@ agree-same want type other size i same (suc m) last l =
     rw (same last l, agree-same want type other size i same m (last - size last) (omega arith))
 
 -- the test of a node by the types of the nodes below it
-pub mistyped-is : (s : List ℕ) (f : ℕ) (t : List ℕ) (n i : ℕ) (types : List ℕ) (r b : Bool) → Known t n → i < n → Typed s f t n i types
+pub mistyped-is : (s : List ℕ) (f : ℕ) (t : List ℕ) (n i : ℕ) (types : List ℕ) (r b : Bool) → Known t n → i < n → NodesTyped s f t n i types
     → r ≡ agree (wantAt s f t n i) (λ k. getD types k 0) (children t i) → not r ≡ b → mistyped s f t n i ≡ b
 unfolding mistyped children
 mistyped-is s f t n i types r b h l known e q = sym (ap not (e ∙ go (arityAt t i) refl)) ∙ q
@@ -66,6 +66,6 @@ mistyped-is s f t n i types r b h l known e q = sym (ap not (e ∙ go (arityAt t
         let p : 0 < i = h .child i l (rw e (omega arith)) in
         agree-same (wantAt s f t n i) (λ k. getD types k 0) (typeAt s f t n) (sizeAt t) i known (suc m) (i - 1) (omega arith)
 
-pub typed-more : (s : List ℕ) (f : ℕ) (t : List ℕ) (n i : ℕ) (types : List ℕ) (v : ℕ) → Typed s f t n i types → i < length types → v ≡ typeAt s f t n i
-    → Typed s f t n (i + 1) (set types i v)
+pub typed-more : (s : List ℕ) (f : ℕ) (t : List ℕ) (n i : ℕ) (types : List ℕ) (v : ℕ) → NodesTyped s f t n i types → i < length types → v ≡ typeAt s f t n i
+    → NodesTyped s f t n (i + 1) (set types i v)
 typed-more s f t n i types v h l e = below-more _ i (λ k p. getD-set-other types i k v 0 (omega arith) ∙ h k p) (getD-set-same types i v 0 l ∙ e)

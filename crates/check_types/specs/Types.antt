@@ -6,5 +6,5 @@ use lib.ListN.{getD}
 use Rattle.spec_language.specs.Types.{typeAt}
 
 -- the types of the first i nodes of function f's part, of n nodes
-abbrev pub Typed : List ℕ → ℕ → List ℕ → ℕ → ℕ → List ℕ → Type 0
-Typed s f t n i types = (k : ℕ) → k < i → getD types k 0 ≡ typeAt s f t n k
+abbrev pub NodesTyped : List ℕ → ℕ → List ℕ → ℕ → ℕ → List ℕ → Type 0
+NodesTyped s f t n i types = (k : ℕ) → k < i → getD types k 0 ≡ typeAt s f t n k

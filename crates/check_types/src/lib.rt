@@ -19,7 +19,7 @@ ghost use Rattle.records.specs.Search.{firstOf};
 ghost use Rattle.records.specs.Children.{children};
 ghost use Rattle.spec_language.specs.Types.{paramType, varType, operatorType, typeAt, condition, wantAt, suits, agree};
 ghost use Rattle.spec_language.specs.Nodes.{mistyped};
-ghost use Rattle.spec_language.specs.Known.{Known, Calls};
+ghost use Rattle.spec_language.specs.Known.{Known, CallsKnown};
 ghost use Rattle.check_scopes.specs.Counts.{Decls};
 
 // The type of parameter k of function f.
@@ -56,7 +56,7 @@ pub fn operator_type(a: u8) -> u8
 pub fn type_of(file: &[u8], f: usize, part: &[u8], n: usize, decls: &[usize; 64], i: usize) -> u8
     requires laid { ⌜ Laid (now file) × (f < functions (now file)) ⌝ }
     requires inside { ⌜ (12 * n ≤ length (now part)) × (i < n) ⌝ }
-    requires known { ⌜ Known (now part) n × Calls (functions (now file)) (now part) n ⌝ }
+    requires known { ⌜ Known (now part) n × CallsKnown (functions (now file)) (now part) n ⌝ }
     requires told { ⌜ Decls (now part) n (now decls) ⌝ }
     ensures { λ r. ⌜ r ≡ typeAt (now (file .entry)) f (now (part .entry)) n i ⌝ }
 {
@@ -95,7 +95,7 @@ fn want_of(
 ) -> u8
     requires laid { ⌜ Laid (now file) × (f < functions (now file)) ⌝ }
     requires inside { ⌜ (12 * n ≤ length (now part)) × (i < n) × (kindAt (now part) i ≡ 5 → k < 8) ⌝ }
-    requires known { ⌜ Known (now part) n × Calls (functions (now file)) (now part) n ⌝ }
+    requires known { ⌜ Known (now part) n × CallsKnown (functions (now file)) (now part) n ⌝ }
     requires told { ⌜ Decls (now part) n (now decls) ⌝ }
     ensures { λ r. ⌜ r ≡ wantAt (now (file .entry)) f (now (part .entry)) n i k ⌝ }
 {
@@ -135,7 +135,7 @@ fn children_agree(
 ) -> bool
     requires laid { ⌜ Laid (now file) × (f < functions (now file)) ⌝ }
     requires inside { ⌜ (12 * n ≤ length (now part)) × (i < n) × (n ≤ 4096) ⌝ }
-    requires known { ⌜ Known (now part) n × Calls (functions (now file)) (now part) n ⌝ }
+    requires known { ⌜ Known (now part) n × CallsKnown (functions (now file)) (now part) n ⌝ }
     requires told { ⌜ Decls (now part) n (now decls) ⌝ }
     ensures { λ r. ⌜ r ≡ agree (wantAt (now (file .entry)) f (now (part .entry)) n i) (λ k. getD (now (types .entry)) k 0) (children (now (part .entry)) i) ⌝ }
 {
@@ -156,7 +156,7 @@ fn children_agree(
 pub fn first_mistyped(file: &[u8], f: usize, part: &[u8], n: usize) -> Found
     requires laid { ⌜ Laid (now file) × (f < functions (now file)) ⌝ }
     requires inside { ⌜ (12 * n ≤ length (now part)) × (n ≤ 4096) ⌝ }
-    requires known { ⌜ Known (now part) n × Calls (functions (now file)) (now part) n ⌝ }
+    requires known { ⌜ Known (now part) n × CallsKnown (functions (now file)) (now part) n ⌝ }
     ensures { λ r. ⌜ r ≡ firstOf (mistyped (now (file .entry)) f (now (part .entry)) n) n ⌝ }
 {
     let decls = check_scopes::decl_table(part, n);

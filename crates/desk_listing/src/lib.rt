@@ -11,7 +11,7 @@ use crate::lines::deeper;
 use crate::lines::put_margin;
 use crate::lines::put_piece;
 use crate::lines::put_signature;
-use crate::worklist::Frame;
+use crate::worklist::Pending;
 use crate::worklist::advance;
 use crate::worklist::frame_at;
 use crate::worklist::push;
@@ -66,7 +66,7 @@ fn enter(
     requires { ⌜ 12 * (s .nodes) ≤ length (now part) ⌝ }
     requires { ⌜ node < s .nodes ⌝ }
 {
-    let frame = Frame {
+    let frame = Pending {
         node,
         expression,
         place: word_start(templates, template_of(kind_at(part, node), expression)),
@@ -89,7 +89,7 @@ fn enter_child(
     templates: &[u8],
     part: &[u8],
     s: Subject,
-    f: Frame,
+    f: Pending,
     code: u8,
     stack: &mut [usize],
     out: &mut [u8],
@@ -134,7 +134,7 @@ fn enter_argument(
     templates: &[u8],
     part: &[u8],
     s: Subject,
-    f: Frame,
+    f: Pending,
     stack: &mut [usize],
     out: &mut [u8],
     w: Walk,
@@ -149,7 +149,7 @@ fn enter_argument(
         };
     }
     let child = child_of(part, s.nodes, f.node, f.child);
-    let again = Frame {
+    let again = Pending {
         node: f.node,
         expression: f.expression,
         place: f.place,
@@ -168,7 +168,7 @@ fn enter_itself(
     templates: &[u8],
     part: &[u8],
     s: Subject,
-    f: Frame,
+    f: Pending,
     stack: &mut [usize],
     out: &mut [u8],
     w: Walk,

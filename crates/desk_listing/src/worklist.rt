@@ -6,7 +6,7 @@ ghost use Prim.Native.Nat.{_≤_};
 ghost use lib.ListN.{length, getD};
 
 // A node that is being written: whether as an expression, how far in its template, how many children of it, and how deep.
-pub struct Frame {
+pub struct Pending {
     pub node: usize,
     pub expression: bool,
     pub place: usize,
@@ -29,7 +29,7 @@ fn load(stack: &[usize], i: usize) -> usize
 }
 
 // Puts a frame on the stack, where there is room, and answers how many words are used.
-pub fn push(stack: &mut [usize], top: usize, f: Frame) -> usize
+pub fn push(stack: &mut [usize], top: usize, f: Pending) -> usize
     ensures { λ r. ⌜ (top ≤ length (now (stack .entry)) → r ≤ length (now (stack .exit))) ⌝ }
 {
     if minus(stack.len(), top) < 5 {
@@ -44,10 +44,10 @@ pub fn push(stack: &mut [usize], top: usize, f: Frame) -> usize
 }
 
 // The frame whose words begin at `base`.
-pub fn frame_at(stack: &[usize], base: usize) -> Frame
+pub fn frame_at(stack: &[usize], base: usize) -> Pending
     ensures { λ r. ⌜ r .node ≡ getD (now (stack .entry)) base 0 ⌝ }
 {
-    Frame {
+    Pending {
         node: load(stack, base),
         expression: load(stack, wrapping_add_usize(base, 1)) == 1,
         place: load(stack, wrapping_add_usize(base, 2)),
@@ -57,13 +57,13 @@ pub fn frame_at(stack: &[usize], base: usize) -> Frame
 }
 
 // Puts a frame back with the next place of its template, and so many children written.
-pub fn advance(stack: &mut [usize], base: usize, f: Frame, child: usize) -> usize
+pub fn advance(stack: &mut [usize], base: usize, f: Pending, child: usize) -> usize
     ensures { λ r. ⌜ (base ≤ length (now (stack .entry)) → r ≤ length (now (stack .exit))) ⌝ }
 {
     push(
         stack,
         base,
-        Frame {
+        Pending {
             node: f.node,
             expression: f.expression,
             place: wrapping_add_usize(f.place, 1),

@@ -1,5 +1,5 @@
 pub mod Holding
-pub mod Parts
+pub mod PartExtents
 pub mod Records
 pub mod Refusals
 pub mod Variables

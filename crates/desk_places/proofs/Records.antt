@@ -8,7 +8,7 @@ use borrow.Author.Tests.{ne-eqb, le-ltb, le-leb, lt-leb}
 use Rattle.records.specs.Fields.{functions, countOf, kindAt}
 use Rattle.records.specs.Parts.{startOf, partOf, Laid}
 use Rattle.records.proofs.Loops.{Below}
-use Rattle.records.proofs.Parts.{part-byte}
+use Rattle.records.proofs.PartWalks.{part-byte}
 use Rattle.spec_language.proofs.Facts.{sum-more}
 use Rattle.desk_places.specs.Located.{placeOf}
 use Rattle.desk_places.specs.declared.Place.the-variants.{Header, Function, Node}

@@ -15,7 +15,7 @@ use Rattle.spec_language.specs.Check.{refused, checkOf}
 use Rattle.spec_language.proofs.Facts.{sized-is}
 use Rattle.spec_language.proofs.Accept.{Finds, all-pass, asked-none}
 use Rattle.spec_language.proofs.Tiles.{Sizes}
-use Rattle.spec_language.proofs.Places.{lacking-inside}
+use Rattle.spec_language.proofs.LowestRead.{lacking-inside}
 use Rattle.spec_language.proofs.Refusals.{LowestRecord, refused-is}
 use Rattle.spec_language.proofs.Verdicts.{Fails, LacksIn, Own, Some, unmet, place-7, place-8, place-9, place-10, place-11, place-12, place-13, place-14}
 use Rattle.desk_places.specs.Located.{placeOf}

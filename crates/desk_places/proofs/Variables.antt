@@ -14,7 +14,7 @@ use Rattle.spec_language.specs.Statements.{Shape, nop, seq, assign, decl, if, w
 use Rattle.spec_language.specs.Flow.{leaves}
 use Rattle.spec_language.specs.Check.{refused, checkOf}
 use Rattle.spec_language.proofs.Flows.{Listed}
-use Rattle.spec_language.proofs.Places.{Empty, Lacks}
+use Rattle.spec_language.proofs.LowestRead.{Empty, Lacks}
 use Rattle.spec_language.proofs.Verdicts.{LacksIn}
 use Rattle.desk_places.specs.Located.{placeOf}
 use Rattle.desk_places.specs.declared.Place.the-variants.{Node}

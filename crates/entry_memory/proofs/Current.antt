@@ -12,19 +12,19 @@ use lib.ListN.{length, getD, drop}
 use lib.Seq.{getD-take, getD-drop}
 use borrow.Author.Tests.{lt-ltb, le-ltb, ltb-true}
 use Rattle.words.specs.Stacks.{blockAt, Every}
-use Rattle.spec_machine.specs.Machine.{calm, main}
+use Rattle.spec_machine.specs.Machine.{emptyEnv, main}
 use Rattle.spec_machine.specs.Run.{looked, lookUp}
 use Rattle.spec_image.specs.Layout.{Activation, activation}
 use Rattle.spec_image.specs.Decode.{valueOf, valuesOf, runningOf, activationsTo, activationsIn, states, stateOf}
 use Rattle.spec_image.specs.Narrow.{NarrowActivation}
 use Rattle.spec_image.proofs.Images.{activations-in}
 use Rattle.state_words.specs.Meaning.{activationAt, variableAt}
-use Rattle.spec_image.proofs.Parts.{length-valuesOf}
-use Rattle.fit_state.specs.Held.{Held}
+use Rattle.spec_image.proofs.ValueWords.{length-valuesOf}
+use Rattle.fit_state.specs.HoldsState.{HoldsState}
 use Rattle.fit_state.specs.Meaning.{variablesIn}
 use Rattle.fit_state.proofs.Lists.{activation-in}
 use Rattle.fit_state.proofs.Rests as rests
-use Rattle.spec_answers.specs.Answers.{given, valueOr}
+use Rattle.spec_answers.specs.Answers.{isPresent, valueOr}
 
 -- ---- one of the values of a list of words
 
@@ -45,7 +45,7 @@ looked-past (suc v) l (suc x) h = looked-past v (drop 2 l) x (omega arith)
 
 -- ---- a state that is not running
 
-other : (m : List ℕ) (x t : ℕ) → (t ≡ 2 → ⊥) → lookUp (getD (states m) t (main calm)) x ≡ none
+other : (m : List ℕ) (x t : ℕ) → (t ≡ 2 → ⊥) → lookUp (getD (states m) t (main emptyEnv)) x ≡ none
 unfolding states
 other m x zero n = refl
 other m x (suc zero) n = refl
@@ -57,12 +57,12 @@ other m x (suc (suc (suc (suc (suc (suc zero)))))) n = refl
 other m x (suc (suc (suc (suc (suc (suc (suc t))))))) n = refl
 
 module _ (m : List ℕ) (x : ℕ) where
-  pub none-given : (getD m 0 0 ≡ 2 → ⊥) → false ≡ given (lookUp (stateOf m) x)
+  pub none-given : (getD m 0 0 ≡ 2 → ⊥) → false ≡ isPresent (lookUp (stateOf m) x)
   unfolding stateOf
   none-given n = rw (other m x (getD m 0 0) n)
 
   -- where there is such a variable, the state is running
-  pub given-runs : given (lookUp (stateOf m) x) ≡ true → getD m 0 0 ≡ 2
+  pub given-runs : isPresent (lookUp (stateOf m) x) ≡ true → getD m 0 0 ≡ 2
   given-runs g = go (ℕ-discrete (getD m 0 0) 2)
     where
       go : Dec (getD m 0 0 ≡ 2) → getD m 0 0 ≡ 2
@@ -71,7 +71,7 @@ module _ (m : List ℕ) (x : ℕ) where
 
 -- ---- a running state
 
-module _ (m : List ℕ) (h : Held m) (tag : getD m 0 0 ≡ 2) where
+module _ (m : List ℕ) (h : HoldsState m) (tag : getD m 0 0 ≡ 2) where
   -- how many activations lie under the current one, and its variables
   abbrev a : ℕ
   a = getD m 2 0 - 1
@@ -107,20 +107,20 @@ module _ (m : List ℕ) (h : Held m) (tag : getD m 0 0 ≡ 2) where
       ∙ getD-drop (128 + a * 136) m (8 + (x * 2 + j)) 0
       ∙ rw e
 
-  pub count-given : (x v : ℕ) → v ≡ count → ltb x v ≡ given (lookUp (stateOf m) x)
+  pub count-given : (x v : ℕ) → v ≡ count → ltb x v ≡ isPresent (lookUp (stateOf m) x)
   count-given x v e = rw (e, looks x) (go (decLt x count))
     where
-      go : Dec (x < count) → ltb x count ≡ given (looked (variablesIn m a count) x)
+      go : Dec (x < count) → ltb x count ≡ isPresent (looked (variablesIn m a count) x)
       go (yes l) = rw (lt-ltb x count l, looked-here count (drop 8 (blockAt 136 m 128 a)) x l)
       go (no l) = rw (le-ltb x count (omega arith), looked-past count (drop 8 (blockAt 136 m 128 a)) x (omega arith))
 
-  pub given-below : (x : ℕ) → given (lookUp (stateOf m) x) ≡ true → x < count
+  pub given-below : (x : ℕ) → isPresent (lookUp (stateOf m) x) ≡ true → x < count
   given-below x g = ltb-true x count (count-given x count refl ∙ g)
 
-  pub given-few : (x : ℕ) → given (lookUp (stateOf m) x) ≡ true → x < 64
+  pub given-few : (x : ℕ) → isPresent (lookUp (stateOf m) x) ≡ true → x < 64
   given-few x g = omega (arith, given-below x g, count-few)
 
-  pub value-given : (x : ℕ) → given (lookUp (stateOf m) x) ≡ true
+  pub value-given : (x : ℕ) → isPresent (lookUp (stateOf m) x) ≡ true
       → valueOf (getD m (variableAt a x) 0) (getD m (variableAt a x + 1) 0) ≡ valueOr (lookUp (stateOf m) x)
   value-given x g =
       let l = given-below x g in

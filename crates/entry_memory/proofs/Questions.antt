@@ -7,9 +7,9 @@ use lib.ListN.{length, drop}
 use borrow.Author.Tests.{le-leb, lt-leb}
 use Rattle.records.specs.Search.{unless}
 use Rattle.words.proofs.Tests.{eq-same}
-use Rattle.spec_language.specs.Check.{accepted, refused, questions, refuse, put, checkOf}
+use Rattle.spec_language.specs.Check.{accepted, refused, questions, refuse, firstRefusal, checkOf}
 use Rattle.spec_machine.specs.Machine.{State}
-use Rattle.spec_machine.specs.Fit.{Within}
+use Rattle.spec_machine.specs.Fit.{WithinLimits}
 use Rattle.spec_machine.specs.Test.{fit}
 use Rattle.spec_machine.specs.Run.{lookUp}
 use Rattle.spec_machine.specs.File.{programOf}
@@ -19,18 +19,18 @@ use Rattle.spec_image.specs.Memory.{size, Holds, fitWords}
 use Rattle.spec_image.specs.Narrow.{Narrow}
 use Rattle.spec_image.proofs.Sized.{file-sized, fit-narrow}
 use Rattle.spec_image.proofs.Memory.{held-whole, holds-fit}
-use Rattle.fit_state.specs.Held.{Held}
-use Rattle.spec_answers.specs.Answers.{roomFor, imageIn, given, variableIn, memoryAnswer, lookVerdict, told, turned, answered, valueOr, lookAnswer}
+use Rattle.fit_state.specs.HoldsState.{HoldsState}
+use Rattle.spec_answers.specs.Answers.{roomFor, imageIn, isPresent, variableIn, memoryAnswer, lookVerdict, granted, denied, byVerdict, valueOr, lookAnswer}
 use Rattle.spec_answers.proofs.Questions.{put-after, put-early, memory-so, memory-if}
 
 -- ---- question 16
 
-pub image-held : (m : List ℕ) → Holds m (stateOf m) × Within (stateOf m) × Narrow (stateOf m) → Held m
+pub image-held : (m : List ℕ) → Holds m (stateOf m) × WithinLimits (stateOf m) × Narrow (stateOf m) → HoldsState m
 image-held m h = record { state = stateOf m; rest = drop size m; held = held-whole m (stateOf m) (h .0); within = h .1; narrow = h .2 }
 
 module _ (s m : List ℕ) where
   -- words that are no image of a state within the limits and narrow
-  pub no-image : checkOf s ≡ accepted → (r : Bool) → ((t : State) → Within t → Narrow t → Holds m t → r ≡ true) → r ≡ false → false ≡ fitWords (programOf s) m
+  pub no-image : checkOf s ≡ accepted → (r : Bool) → ((t : State) → WithinLimits t → Narrow t → Holds m t → r ≡ true) → r ≡ false → false ≡ fitWords (programOf s) m
   no-image e r h q = sym (go (fitWords (programOf s) m) refl)
     where
       go : (b : Bool) → fitWords (programOf s) m ≡ b → fitWords (programOf s) m ≡ false
@@ -40,8 +40,8 @@ module _ (s m : List ℕ) where
           absurd (false≢true (sym q ∙ h (stateOf m) (f .1 .within) (fit-narrow (programOf s) (file-sized s e) (stateOf m) (f .1)) (f .0)))
 
   -- words that are the image of a state
-  pub an-image : (r : Bool) → Holds m (stateOf m) × Within (stateOf m) × Narrow (stateOf m)
-      → ((t : State) (R : List ℕ) → m ≡ image t ++ R → Within t → Narrow t → r ≡ fit (programOf s) t) → r ≡ fitWords (programOf s) m
+  pub an-image : (r : Bool) → Holds m (stateOf m) × WithinLimits (stateOf m) × Narrow (stateOf m)
+      → ((t : State) (R : List ℕ) → m ≡ image t ++ R → WithinLimits t → Narrow t → r ≡ fit (programOf s) t) → r ≡ fitWords (programOf s) m
   unfolding fitWords
   an-image r h f = f (stateOf m) (drop size m) (held-whole m (stateOf m) (h .0)) (h .1) (h .2) ∙ rw (h .0, eq-same (image (stateOf m)))
 
@@ -53,19 +53,19 @@ module _ (s m : List ℕ) where
   memory-early k p x e = sym (put-early (questions s) (roomFor m ∷ imageIn s m ∷ []) k p x e)
 
   pub memory-short : checkOf s ≡ accepted → length m < size → refused 15 0 0 ≡ memoryAnswer s m
-  unfolding checkOf memoryAnswer roomFor put refuse unless
+  unfolding checkOf memoryAnswer roomFor firstRefusal refuse unless
   memory-short e l =
-      let b : put (roomFor m ∷ imageIn s m ∷ []) ≡ refused 15 0 0 = rw (lt-leb size (length m) l) in
+      let b : firstRefusal (roomFor m ∷ imageIn s m ∷ []) ≡ refused 15 0 0 = rw (lt-leb size (length m) l) in
       sym (put-after (questions s) (roomFor m ∷ imageIn s m ∷ []) e ∙ b)
 
-  memory-long : checkOf s ≡ accepted → size ≤ length m → memoryAnswer s m ≡ put (imageIn s m ∷ [])
-  unfolding checkOf memoryAnswer roomFor put refuse unless
+  memory-long : checkOf s ≡ accepted → size ≤ length m → memoryAnswer s m ≡ firstRefusal (imageIn s m ∷ [])
+  unfolding checkOf memoryAnswer roomFor firstRefusal refuse unless
   memory-long e l =
-      let b : put (roomFor m ∷ imageIn s m ∷ []) ≡ put (imageIn s m ∷ []) = rw (le-leb size (length m) l) in
+      let b : firstRefusal (roomFor m ∷ imageIn s m ∷ []) ≡ firstRefusal (imageIn s m ∷ []) = rw (le-leb size (length m) l) in
       put-after (questions s) (roomFor m ∷ imageIn s m ∷ []) e ∙ b
 
   pub memory-none : checkOf s ≡ accepted → size ≤ length m → fitWords (programOf s) m ≡ false → refused 16 0 0 ≡ memoryAnswer s m
-  unfolding imageIn put refuse unless
+  unfolding imageIn firstRefusal refuse unless
   memory-none e l q = sym (memory-long e l ∙ rw q)
 
   pub memory-held : checkOf s ≡ accepted → size ≤ length m → fitWords (programOf s) m ≡ true → accepted ≡ memoryAnswer s m
@@ -78,7 +78,7 @@ module _ (s m : List ℕ) (e : memoryAnswer s m ≡ accepted) where
   pub room-held : size ≤ length m
   room-held = memory-so s m e .1
 
-  pub state-held : Held m
+  pub state-held : HoldsState m
   state-held =
       let f = holds-fit (programOf s) m (memory-so s m e .2) in
       image-held m (f .0, f .1 .within, fit-narrow (programOf s) (file-sized s (memory-so s m e .0)) (stateOf m) (f .1))
@@ -86,28 +86,28 @@ module _ (s m : List ℕ) (e : memoryAnswer s m ≡ accepted) where
 -- ---- look-up
 
 module _ (s m : List ℕ) (x : ℕ) where
-  look-parted : lookVerdict s m x ≡ put ((questions s ++ (roomFor m ∷ imageIn s m ∷ [])) ++ (variableIn m x ∷ []))
+  look-parted : lookVerdict s m x ≡ firstRefusal ((questions s ++ (roomFor m ∷ imageIn s m ∷ [])) ++ (variableIn m x ∷ []))
   unfolding lookVerdict
   look-parted = rw (append-assoc (questions s) (roomFor m ∷ imageIn s m ∷ []) (variableIn m x ∷ []))
 
-  pub look-early : (k p i : ℕ) → memoryAnswer s m ≡ refused k p i → lookAnswer s m x ≡ turned k p i
-  unfolding memoryAnswer lookAnswer answered
+  pub look-early : (k p i : ℕ) → memoryAnswer s m ≡ refused k p i → lookAnswer s m x ≡ denied k p i
+  unfolding memoryAnswer lookAnswer byVerdict
   look-early k p i e =
       let a : lookVerdict s m x ≡ refused k p i = look-parted ∙ put-early (questions s ++ (roomFor m ∷ imageIn s m ∷ [])) (variableIn m x ∷ []) k p i e in
       rw a
 
-  look-late : memoryAnswer s m ≡ accepted → lookVerdict s m x ≡ put (variableIn m x ∷ [])
+  look-late : memoryAnswer s m ≡ accepted → lookVerdict s m x ≡ firstRefusal (variableIn m x ∷ [])
   unfolding memoryAnswer
   look-late e = look-parted ∙ put-after (questions s ++ (roomFor m ∷ imageIn s m ∷ [])) (variableIn m x ∷ []) e
 
-  pub look-none : memoryAnswer s m ≡ accepted → given (lookUp (stateOf m) x) ≡ false → lookAnswer s m x ≡ turned 17 0 0
-  unfolding lookAnswer answered variableIn put refuse unless
+  pub look-none : memoryAnswer s m ≡ accepted → isPresent (lookUp (stateOf m) x) ≡ false → lookAnswer s m x ≡ denied 17 0 0
+  unfolding lookAnswer byVerdict variableIn firstRefusal refuse unless
   look-none e q =
       let a : lookVerdict s m x ≡ refused 17 0 0 = look-late e ∙ rw q in
       rw a
 
-  pub look-told : memoryAnswer s m ≡ accepted → given (lookUp (stateOf m) x) ≡ true → lookAnswer s m x ≡ told (valueOr (lookUp (stateOf m) x))
-  unfolding lookAnswer answered variableIn put refuse unless
+  pub look-told : memoryAnswer s m ≡ accepted → isPresent (lookUp (stateOf m) x) ≡ true → lookAnswer s m x ≡ granted (valueOr (lookUp (stateOf m) x))
+  unfolding lookAnswer byVerdict variableIn firstRefusal refuse unless
   look-told e q =
       let a : lookVerdict s m x ≡ accepted = look-late e ∙ rw q in
       rw a

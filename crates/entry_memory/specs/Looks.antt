@@ -2,16 +2,16 @@
 use Prim.Native.Nat.{_<_}
 use Rattle.arith.specs.Int as arith
 use Rattle.spec_machine.specs.Values.{Value, nothing, int, truth}
-use Rattle.spec_answers.specs.Answers.{Told, told, turned}
+use Rattle.spec_answers.specs.Answers.{Result, granted, denied}
 use Rattle.entry_memory.specs.declared.Look.{Look}
 use Rattle.entry_memory.specs.declared.Look.the-variants.{Nothing, Int, Truth, Refused}
 
 -- nothing, a signed int, a bool, or the refusal's number, place and item
-unfoldable pub lookOf : Told Value → Look
-lookOf (told nothing) = Nothing
-lookOf (told (int n)) = Int (arith.int n)
-lookOf (told (truth b)) = Truth b
-lookOf (turned q place item) = Refused q place item
+unfoldable pub lookOf : Result Value → Look
+lookOf (granted nothing) = Nothing
+lookOf (granted (int n)) = Int (arith.int n)
+lookOf (granted (truth b)) = Truth b
+lookOf (denied q place item) = Refused q place item
 
 -- a place is a record of the longest file, and an item a variable
 abbrev pub SmallLook : Look → Type 0

@@ -12,8 +12,8 @@ ghost use Rattle.spec_machine.specs.File.{programOf};
 ghost use Rattle.spec_image.specs.Decode.{stateOf};
 ghost use Rattle.spec_image.specs.Memory.{fitWords};
 ghost use Rattle.state_words.specs.Meaning.{valueIs};
-ghost use Rattle.fit_state.specs.Held.{Held};
-ghost use Rattle.spec_answers.specs.Answers.{memoryAnswer, told, given, valueOr, lookAnswer};
+ghost use Rattle.fit_state.specs.HoldsState.{HoldsState};
+ghost use Rattle.spec_answers.specs.Answers.{memoryAnswer, granted, isPresent, valueOr, lookAnswer};
 ghost use Rattle.entry_memory.specs.Looks.{lookOf, SmallLook};
 
 // What look-up gives: nothing, an int, a bool, or a refusal.
@@ -74,8 +74,8 @@ pub fn check_memory(file: &[u8], m: &[u32]) -> Answer
 
 // Whether the current activation of the state in the memory has variable x.
 fn has_variable(m: &[u32], x: u32) -> bool
-    requires { ⌜ (16384 ≤ length (now m)) × Held (now m) ⌝ }
-    ensures { λ r. ⌜ r ≡ given (lookUp (stateOf (now (m .entry))) x) ⌝ }
+    requires { ⌜ (16384 ≤ length (now m)) × HoldsState (now m) ⌝ }
+    ensures { λ r. ⌜ r ≡ isPresent (lookUp (stateOf (now (m .entry))) x) ⌝ }
 {
     if m[0] != 2 {
         return false;
@@ -86,7 +86,7 @@ fn has_variable(m: &[u32], x: u32) -> bool
 
 // What the current activation's variable x holds.
 fn value_in(m: &[u32], x: u32) -> Value
-    requires { ⌜ (16384 ≤ length (now m)) × Held (now m) × (given (lookUp (stateOf (now m)) x) ≡ true) ⌝ }
+    requires { ⌜ (16384 ≤ length (now m)) × HoldsState (now m) × (isPresent (lookUp (stateOf (now m)) x) ≡ true) ⌝ }
     ensures { λ r. ⌜ valueIs r ≡ valueOr (lookUp (stateOf (now (m .entry))) x) ⌝ }
 {
     let a = m[2] as usize - 1;
@@ -95,7 +95,7 @@ fn value_in(m: &[u32], x: u32) -> Value
 
 // The answer that tells a value.
 fn look_of(v: Value) -> Look
-    ensures answer { λ r. ⌜ r ≡ lookOf (told (valueIs v)) ⌝ }
+    ensures answer { λ r. ⌜ r ≡ lookOf (granted (valueIs v)) ⌝ }
     ensures small { λ r. ⌜ SmallLook r ⌝ }
 {
     match v {

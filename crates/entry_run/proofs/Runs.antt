@@ -13,22 +13,22 @@ use Rattle.spec_image.specs.Image.{image}
 use Rattle.spec_image.specs.Decode.{stateOf}
 use Rattle.spec_image.specs.Memory.{size}
 use Rattle.spec_image.proofs.Memory.{held-whole, holds-fit}
-use Rattle.spec_answers.specs.Answers.{memoryAnswer, answered, written, runFrom, runAnswer, runMemory}
+use Rattle.spec_answers.specs.Answers.{memoryAnswer, byVerdict, written, runFrom, runAnswer, runMemory}
 use Rattle.spec_answers.proofs.Questions.{memory-so}
 use Rattle.run_loop.specs.declared.Ran.{Ran}
 use Rattle.run_loop.specs.declared.Outcome.{Outcome}
-use Rattle.run_loop.specs.Runs.{Held, Ends}
+use Rattle.run_loop.specs.Runs.{HoldsFit, Ends}
 use Rattle.entry_run.specs.declared.Reply.the-variants.{Ended, Refused}
 use Rattle.entry_run.specs.Replies.{replyOf}
 
 module _ (s m : List ℕ) (a : ℕ) where
   pub run-refused : (q p i : ℕ) → memoryAnswer s m ≡ refused q p i → (Refused q p i ≡ replyOf (runAnswer s m a)) × (m ≡ runMemory s m a)
-  unfolding runAnswer runMemory answered written replyOf
+  unfolding runAnswer runMemory byVerdict written replyOf
   run-refused q p i e = (rw e, rw e)
 
   module _ (e : memoryAnswer s m ≡ accepted) where
     -- the memory holds a fit state
-    pub run-held : Held s m
+    pub run-held : HoldsFit s m
     run-held =
         let q = memory-so s m e in
         let h = holds-fit (programOf s) m (q .2) in
@@ -40,7 +40,7 @@ module _ (s m : List ℕ) (a : ℕ) where
     pub run-accepted : (r : Ran) (l : List ℕ)
         → ((σ : State) (R : List ℕ) → m ≡ image σ ++ R → Fit (programOf s) σ → Ends 0 (runOf (programOf s) a σ) (r .outcome) (r .steps) l R)
         → (Ended r ≡ replyOf (runAnswer s m a)) × (l ≡ runMemory s m a)
-    unfolding runAnswer runMemory answered written replyOf runFrom
+    unfolding runAnswer runMemory byVerdict written replyOf runFrom
     run-accepted r l f =
         let q = memory-so s m e in
         let h = holds-fit (programOf s) m (q .2) in

@@ -8,8 +8,8 @@ use borrow.Author.Tests.{le-leb, lt-leb}
 use Rattle.words.specs.Blocks.{puts}
 use Rattle.words.proofs.Blocks.{puts-at}
 use Rattle.records.specs.Search.{unless}
-use Rattle.spec_language.specs.Check.{accepted, refused, questions, refuse, put, checkOf}
-use Rattle.spec_machine.specs.Machine.{main, calm}
+use Rattle.spec_language.specs.Check.{accepted, refused, questions, refuse, firstRefusal, checkOf}
+use Rattle.spec_machine.specs.Machine.{main, emptyEnv}
 use Rattle.spec_image.specs.Layout.{filled}
 use Rattle.spec_image.specs.Image.{headWords, activationsOf, framesOf, image}
 use Rattle.spec_image.specs.Memory.{size}
@@ -20,32 +20,32 @@ module _ (s m : List ℕ) where
   pub refused-early : (k p x : ℕ) → checkOf s ≡ refused k p x → (refused k p x ≡ startAnswer s m) × (m ≡ startMemory s m)
   unfolding checkOf startAnswer startMemory written
   refused-early k p x e =
-      let a : put (questions s ++ (roomFor m ∷ [])) ≡ refused k p x = put-early (questions s) (roomFor m ∷ []) k p x e in
+      let a : firstRefusal (questions s ++ (roomFor m ∷ [])) ≡ refused k p x = put-early (questions s) (roomFor m ∷ []) k p x e in
       (sym a, rw a)
 
   pub no-room : checkOf s ≡ accepted → length m < size → (refused 15 0 0 ≡ startAnswer s m) × (m ≡ startMemory s m)
-  unfolding checkOf startAnswer startMemory written roomFor put refuse unless
+  unfolding checkOf startAnswer startMemory written roomFor firstRefusal refuse unless
   no-room e l =
-      let b : put (roomFor m ∷ []) ≡ refused 15 0 0 = rw (lt-leb size (length m) l) in
-      let a : put (questions s ++ (roomFor m ∷ [])) ≡ refused 15 0 0 = put-after (questions s) (roomFor m ∷ []) e ∙ b in
+      let b : firstRefusal (roomFor m ∷ []) ≡ refused 15 0 0 = rw (lt-leb size (length m) l) in
+      let a : firstRefusal (questions s ++ (roomFor m ∷ [])) ≡ refused 15 0 0 = put-after (questions s) (roomFor m ∷ []) e ∙ b in
       (sym a, rw a)
 
-  pub started : (l : List ℕ) → checkOf s ≡ accepted → size ≤ length m → l ≡ image (main calm) ++ drop size m → (accepted ≡ startAnswer s m) × (l ≡ startMemory s m)
-  unfolding checkOf startAnswer startMemory written roomFor put refuse unless
+  pub started : (l : List ℕ) → checkOf s ≡ accepted → size ≤ length m → l ≡ image (main emptyEnv) ++ drop size m → (accepted ≡ startAnswer s m) × (l ≡ startMemory s m)
+  unfolding checkOf startAnswer startMemory written roomFor firstRefusal refuse unless
   started l e h g =
-      let b : put (roomFor m ∷ []) ≡ accepted = rw (le-leb size (length m) h) in
-      let a : put (questions s ++ (roomFor m ∷ [])) ≡ accepted = put-after (questions s) (roomFor m ∷ []) e ∙ b in
+      let b : firstRefusal (roomFor m ∷ []) ≡ accepted = rw (le-leb size (length m) h) in
+      let a : firstRefusal (questions s ++ (roomFor m ∷ [])) ≡ accepted = put-after (questions s) (roomFor m ∷ []) e ∙ b in
       (sym a, rw a g)
 
 -- main() is a tag and zeros
-main-words : image (main calm) ≡ 1 ∷ replicate 16383 0
+main-words : image (main emptyEnv) ≡ 1 ∷ replicate 16383 0
 unfolding image headWords activationsOf framesOf filled
 main-words =
     ap (λ (l : List ℕ). 1 ∷ l) (ap (λ (l : List ℕ). replicate 127 0 ++ (replicate 4352 0 ++ l)) (replicate-append-replicate 10240 1664 0)
     ∙ ap (λ (l : List ℕ). replicate 127 0 ++ l) (replicate-append-replicate 4352 11904 0) ∙ replicate-append-replicate 127 16256 0)
 
 -- zeros, and the tag in the first word
-pub start-words : (m l : List ℕ) (n : ℕ) → n ≡ size → n ≤ length m → l ≡ set (puts m 0 0 (replicate n 0)) 0 1 → l ≡ image (main calm) ++ drop size m
+pub start-words : (m l : List ℕ) (n : ℕ) → n ≡ size → n ≤ length m → l ≡ set (puts m 0 0 (replicate n 0)) 0 1 → l ≡ image (main emptyEnv) ++ drop size m
 start-words m l n q h e =
     let a : puts m 0 0 (replicate n 0) ≡ replicate n 0 ++ drop n m = zeroed n h in
     let b : replicate n 0 ++ drop n m ≡ replicate size 0 ++ drop size m = ap (λ (k : ℕ). replicate k 0 ++ drop k m) q in

@@ -13,8 +13,8 @@ use Rattle.spec_language.specs.Statements.{Read, Statement}
 use Rattle.spec_language.specs.Flow.{missing, lacks}
 use Rattle.spec_machine.specs.Test.{clear}
 use Rattle.fit_table.specs.Summary.{Needs, Summary}
-use Rattle.fit_flow.specs.declared.Passage.{Passage}
-use Rattle.fit_flow.specs.Goes.{Goes}
+use Rattle.fit_flow.specs.declared.Flowed.{Flowed}
+use Rattle.fit_flow.specs.Flowed.{FlowedIs}
 
 -- nothing is left over exactly where one set is within another
 pub within-is : (a b : Set) → (less a b ≡ none) ↔ Sub a b
@@ -36,8 +36,8 @@ found-nothing false Nothing h = h .1 refl
 pub held-is : {rs : List Read} {needs : ℕ} {r : Bool} (d : Set) → Needs rs needs → (r ≡ true ↔ Sub (has needs) d) → r ≡ clear (missing rs d)
 held-is {rs} {needs} {r} d n h = found-nothing r (missing rs d) (λ e. n .enough d (h .0 e), λ e. h .1 (n .wanted d e))
 
-pub goes-by : {s : Statement} {fails returned held : Bool} {needs adds drops declared : ℕ} (d : Set) (r : Passage) → Summary s fails returned needs adds drops declared
-    → (held ≡ true ↔ Sub (has needs) d) → r .ok ≡ (not fails && held) → has (r .left .0) ≡ either (less d (has drops)) (has adds) → Goes s d r
+pub goes-by : {s : Statement} {fails returned held : Bool} {needs adds drops declared : ℕ} (d : Set) (r : Flowed) → Summary s fails returned needs adds drops declared
+    → (held ≡ true ↔ Sub (has needs) d) → r .ok ≡ (not fails && held) → has (r .left .0) ≡ either (less d (has drops)) (has adds) → FlowedIs s d r
 goes-by {s} {fails} {returned} {held} d r p h e l =
     record {
       ok =

@@ -12,14 +12,14 @@ use Rattle.state_words.specs.declared.Ref.{Ref}
 use Rattle.state_words.specs.declared.Ref.the-variants as ref
 use Rattle.state_words.specs.Meaning.{refIs}
 use Rattle.fit_nodes.specs.Part.{Part}
-use Rattle.fit_nodes.proofs.Parts.{loop-above}
+use Rattle.fit_nodes.proofs.AcceptedParts.{loop-above}
 use Rattle.fit_nodes.proofs.Refs.{if-within, seq-within}
-use Rattle.fit_flow.specs.declared.Passage.{Passage}
-use Rattle.fit_flow.specs.Goes.{Goes}
+use Rattle.fit_flow.specs.declared.Flowed.{Flowed}
+use Rattle.fit_flow.specs.Flowed.{FlowedIs}
 use Rattle.fit_flow.proofs.Trees.{seq-returns, if-returns}
 
 -- what is asked of the way through a statement begun with d
-abbrev Answered : List ℕ → ℕ → Ref → Set → Passage → Type 0
+abbrev Answered : List ℕ → ℕ → Ref → Set → Flowed → Type 0
 Answered s f r d b = (b .ok ≡ ok (programOf s) f (refIs r) d) × (has (b .left .0) ≡ leaves (programOf s .stmt f (refIs r)) d)
 
 module _ {s : List ℕ} {f : ℕ} {t : List ℕ} {n : ℕ} (p : Part s f t n) {r : Ref} where
@@ -43,7 +43,7 @@ module _ {s : List ℕ} {f : ℕ} {t : List ℕ} {n : ℕ} (p : Part s f t n) {r
     unfolding programOf refIs stmtAt
     node-tree = rw (e, p .part)
 
-    pub node-flows : {d : Set} {b : Passage} → Goes (statementAt t i) d b → Answered s f r d b
+    pub node-flows : {d : Set} {b : Flowed} → FlowedIs (statementAt t i) d b → Answered s f r d b
     node-flows g = rw node-tree (g .ok, g .left)
 
     pub node-returns : returns (statementAt t i) ≡ returns (programOf s .stmt f (refIs r))
@@ -55,7 +55,7 @@ module _ {s : List ℕ} {f : ℕ} {t : List ℕ} {n : ℕ} (p : Part s f t n) {r
     unfolding programOf refIs stmtAt
     if-tree = rw (e, p .part)
 
-    pub if-flows : {d : Set} {b : Passage} → Goes (unrolled (statementAt t w)) d b → Answered s f r d b
+    pub if-flows : {d : Set} {b : Flowed} → FlowedIs (unrolled (statementAt t w)) d b → Answered s f r d b
     if-flows g = rw if-tree (g .ok, g .left)
 
     pub if-returning : stmtIn (programOf s) f (refIs r) ≡ true → false ≡ returns (programOf s .stmt f (refIs r))
@@ -67,7 +67,7 @@ module _ {s : List ℕ} {f : ℕ} {t : List ℕ} {n : ℕ} (p : Part s f t n) {r
     unfolding programOf refIs stmtAt
     seq-tree = rw (e, p .part)
 
-    pub seq-flows : {d : Set} {b : Passage} → Goes (looped (statementAt t w)) d b → Answered s f r d b
+    pub seq-flows : {d : Set} {b : Flowed} → FlowedIs (looped (statementAt t w)) d b → Answered s f r d b
     seq-flows g = rw seq-tree (g .ok, g .left)
 
     pub seq-above : stmtIn (programOf s) f (refIs r) ≡ true → 0 < w

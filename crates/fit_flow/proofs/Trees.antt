@@ -13,8 +13,8 @@ use Rattle.spec_language.specs.Flow.{leaves, missing, lacks, returns}
 use Rattle.spec_language.proofs.Trees.{statement-while}
 use Rattle.spec_machine.specs.File.{unrolled, looped}
 use Rattle.spec_machine.specs.Test.{clear}
-use Rattle.fit_flow.specs.declared.Passage.{Passage}
-use Rattle.fit_flow.specs.Goes.{Goes}
+use Rattle.fit_flow.specs.declared.Flowed.{Flowed}
+use Rattle.fit_flow.specs.Flowed.{FlowedIs}
 
 -- two searches are clear together
 clear-both : (a b : Found) → clear (orElse a b) ≡ clear a && clear b
@@ -23,8 +23,8 @@ clear-both (At i x) b = refl
 clear-both Nothing b = refl
 
 -- one statement after another
-goes-seq : (s t : Statement) (d : Set) (a b r : Passage) → Goes s d a → Goes t (has (a .left .0)) b
-    → r .ok ≡ a .ok && b .ok → r .left ≡ b .left → Goes (Seq s t) d r
+goes-seq : (s t : Statement) (d : Set) (a b r : Flowed) → FlowedIs s d a → FlowedIs t (has (a .left .0)) b
+    → r .ok ≡ a .ok && b .ok → r .left ≡ b .left → FlowedIs (Seq s t) d r
 unfolding lacks leaves
 goes-seq s t d a b r g h e l =
     record {
@@ -33,8 +33,8 @@ goes-seq s t d a b r g h e l =
     }
 
 -- a statement under a condition
-goes-if : (e : List Read) (s : Statement) (d : Set) (held : Bool) (a r : Passage) → held ≡ clear (missing e d) → Goes s d a
-    → r .ok ≡ held && a .ok → has (r .left .0) ≡ both (has (a .left .0)) d → Goes (If e s Nop) d r
+goes-if : (e : List Read) (s : Statement) (d : Set) (held : Bool) (a r : Flowed) → held ≡ clear (missing e d) → FlowedIs s d a
+    → r .ok ≡ held && a .ok → has (r .left .0) ≡ both (has (a .left .0)) d → FlowedIs (If e s Nop) d r
 unfolding lacks leaves
 goes-if e s d held a r c g q l =
     record {
@@ -52,13 +52,13 @@ module _ (t : List ℕ) (w : ℕ) (k : kindAt t w ≡ 11) (l : 0 < w) where
   unfolding looped unrolled
   if-is = rw (statement-while t w k l)
 
-  pub loop-seq : {d : Set} {a b r : Passage} → Goes (statementAt t (w - 1)) d a → Goes (statementAt t w) (has (a .left .0)) b
-      → r .ok ≡ a .ok && b .ok → r .left ≡ b .left → Goes (looped (statementAt t w)) d r
+  pub loop-seq : {d : Set} {a b r : Flowed} → FlowedIs (statementAt t (w - 1)) d a → FlowedIs (statementAt t w) (has (a .left .0)) b
+      → r .ok ≡ a .ok && b .ok → r .left ≡ b .left → FlowedIs (looped (statementAt t w)) d r
   unfolding last
   loop-seq {d} {a} {b} {r} g h e q = rw seq-is (goes-seq (statementAt t (w - 1)) (statementAt t w) d a b r g h e q)
 
-  pub loop-if : {d : Set} {c : ℕ} {held : Bool} {a r : Passage} → c ≡ w - 1 - sizeAt t (w - 1) → held ≡ clear (missing (readsOf t c) d) → Goes (looped (statementAt t w)) d a
-      → r .ok ≡ held && a .ok → has (r .left .0) ≡ both (has (a .left .0)) d → Goes (unrolled (statementAt t w)) d r
+  pub loop-if : {d : Set} {c : ℕ} {held : Bool} {a r : Flowed} → c ≡ w - 1 - sizeAt t (w - 1) → held ≡ clear (missing (readsOf t c) d) → FlowedIs (looped (statementAt t w)) d a
+      → r .ok ≡ held && a .ok → has (r .left .0) ≡ both (has (a .left .0)) d → FlowedIs (unrolled (statementAt t w)) d r
   unfolding last prior
   loop-if {d} {c} {held} {a} {r} o m g e q = rw (if-is, ← o) (goes-if (readsOf t c) (looped (statementAt t w)) d held a r m g e q)
 

@@ -1,1 +1,1 @@
-pub mod Goes
+pub mod Flowed

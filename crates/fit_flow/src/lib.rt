@@ -16,12 +16,12 @@ ghost use Rattle.spec_language.specs.Flow.{leaves, returns};
 ghost use Rattle.spec_machine.specs.File.{unrolled, looped, programOf};
 ghost use Rattle.spec_machine.specs.Test.{exprIn, stmtIn, reads, ok};
 ghost use Rattle.state_words.specs.Meaning.{refIs};
-ghost use Rattle.fit_table.specs.Tables.{Rowed, Tabled};
+ghost use Rattle.fit_table.specs.Tables.{RowSays, TableSays};
 ghost use Rattle.fit_nodes.specs.Part.{Part};
-ghost use Rattle.fit_flow.specs.Goes.{Goes};
+ghost use Rattle.fit_flow.specs.Flowed.{FlowedIs};
 
 // Whether every read of a statement finds a value, and the variables that have a value after it.
-pub struct Passage {
+pub struct Flowed {
     pub ok: bool,
     pub left: VarSet,
 }
@@ -34,16 +34,16 @@ fn is_within(inner: VarSet, outer: VarSet) -> bool
 }
 
 // How values flow through the statement at node i, by its row.
-fn row_through(table: &[u64], i: usize, set: VarSet) -> Passage
+fn row_through(table: &[u64], i: usize, set: VarSet) -> Flowed
     requires { ⌜ 5 * i + 5 ≤ length (now table) ⌝ }
-    ensures { λ r. ⌜ ((s : Statement) → Rowed s (now (table .entry)) i → Goes s (has (set .0)) r) ⌝ }
+    ensures { λ r. ⌜ ((s : Statement) → RowSays s (now (table .entry)) i → FlowedIs s (has (set .0)) r) ⌝ }
 {
     let row = row_at(table, i);
     let needs = row.needs;
     let drops = row.drops;
     let adds = row.adds;
     let held = is_within(needs, set);
-    Passage {
+    Flowed {
         ok: !row.fails & held,
         left: set.minus(drops).union(adds),
     }
@@ -58,9 +58,9 @@ fn seq_through(
     table: &[u64],
     w: usize,
     set: VarSet,
-) -> Passage
-    requires { ⌜ Part (now file) f (now part) n × Tabled (now part) n (now table) × (w < n) × (kindAt (now part) w ≡ 11) ⌝ }
-    ensures { λ r. ⌜ Goes (looped (statementAt (now (part .entry)) w)) (has (set .0)) r ⌝ }
+) -> Flowed
+    requires { ⌜ Part (now file) f (now part) n × TableSays (now part) n (now table) × (w < n) × (kindAt (now part) w ≡ 11) ⌝ }
+    ensures { λ r. ⌜ FlowedIs (looped (statementAt (now (part .entry)) w)) (has (set .0)) r ⌝ }
 {
     let body = row_through(table, w - 1, set);
     let first = body.ok;
@@ -68,7 +68,7 @@ fn seq_through(
     let again = row_through(table, w, between);
     let second = again.ok;
     let left = again.left;
-    Passage {
+    Flowed {
         ok: first & second,
         left,
     }
@@ -83,16 +83,16 @@ fn if_through(
     table: &[u64],
     w: usize,
     set: VarSet,
-) -> Passage
-    requires { ⌜ Part (now file) f (now part) n × Tabled (now part) n (now table) × (w < n) × (kindAt (now part) w ≡ 11) ⌝ }
-    ensures { λ r. ⌜ Goes (unrolled (statementAt (now (part .entry)) w)) (has (set .0)) r ⌝ }
+) -> Flowed
+    requires { ⌜ Part (now file) f (now part) n × TableSays (now part) n (now table) × (w < n) × (kindAt (now part) w ≡ 11) ⌝ }
+    ensures { λ r. ⌜ FlowedIs (unrolled (statementAt (now (part .entry)) w)) (has (set .0)) r ⌝ }
 {
     let held = is_within(needs_at(table, prior(part, w - 1)), set);
     let entered = seq_through(file, f, part, n, table, w, set);
     let inner = entered.ok;
     let left = entered.left;
     let kept = left.meet(set);
-    Passage {
+    Flowed {
         ok: held & inner,
         left: kept,
     }
@@ -107,12 +107,12 @@ pub fn through(
     table: &[u64],
     r: Ref,
     set: VarSet,
-) -> Passage
-    requires { ⌜ Part (now file) f (now part) n × Tabled (now part) n (now table) × (stmtIn (programOf (now file)) f (refIs r) ≡ true) ⌝ }
+) -> Flowed
+    requires { ⌜ Part (now file) f (now part) n × TableSays (now part) n (now table) × (stmtIn (programOf (now file)) f (refIs r) ≡ true) ⌝ }
     ensures { λ b. ⌜ (b .ok ≡ ok (programOf (now (file .entry))) f (refIs r) (has (set .0))) × (has (b .left .0) ≡ leaves (programOf (now (file .entry)) .stmt f (refIs r)) (has (set .0))) ⌝ }
 {
     match r {
-        Ref::Nop => Passage {
+        Ref::Nop => Flowed {
             ok: true,
             left: set,
         },
@@ -124,7 +124,7 @@ pub fn through(
 
 // Whether a statement returns.
 pub fn returning(file: &[u8], f: usize, part: &[u8], n: usize, table: &[u64], r: Ref) -> bool
-    requires { ⌜ Part (now file) f (now part) n × Tabled (now part) n (now table) × (stmtIn (programOf (now file)) f (refIs r) ≡ true) ⌝ }
+    requires { ⌜ Part (now file) f (now part) n × TableSays (now part) n (now table) × (stmtIn (programOf (now file)) f (refIs r) ≡ true) ⌝ }
     ensures { λ b. ⌜ b ≡ returns (programOf (now (file .entry)) .stmt f (refIs r)) ⌝ }
 {
     match r {
@@ -145,7 +145,7 @@ pub fn reads_held(
     i: u32,
     set: VarSet,
 ) -> bool
-    requires { ⌜ Part (now file) f (now part) n × Tabled (now part) n (now table) × (exprIn (programOf (now file)) f i ≡ true) ⌝ }
+    requires { ⌜ Part (now file) f (now part) n × TableSays (now part) n (now table) × (exprIn (programOf (now file)) f i ≡ true) ⌝ }
     ensures { λ r. ⌜ r ≡ reads (programOf (now (file .entry))) f i (has (set .0)) ⌝ }
 {
     is_within(needs_at(table, i as usize), set)

@@ -12,7 +12,7 @@ use Rattle.varset.specs.Sets.{Set}
 use Rattle.spec_machine.specs.Values.{Ty}
 use Rattle.spec_machine.specs.Program.{Program}
 use Rattle.spec_image.specs.Decode.{valuesOf, nodesOf}
-use Rattle.spec_image.proofs.Parts.{length-valuesOf, length-nodesOf}
+use Rattle.spec_image.proofs.ValueWords.{length-valuesOf, length-nodesOf}
 use Rattle.fit_frames.specs.Operands.{valuesSuit, nodesSuit, gathered}
 use Rattle.fit_frames.proofs.OperandLaws.{gathered-count, gathered-each}
 

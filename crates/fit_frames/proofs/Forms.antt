@@ -8,7 +8,7 @@ use Rattle.spec_machine.specs.Machine.{Frame}
 use Rattle.spec_image.specs.Decode.{frames, frameOf}
 use Rattle.state_words.specs.Meaning.{frameAt}
 use Rattle.fit_frames.specs.Slots.{slotsIn}
-use Rattle.fit_frames.proofs.Slots.{block-word}
+use Rattle.fit_frames.proofs.FrameSlots.{block-word}
 use Rattle.fit_frames.specs.Meaning.{frameIn}
 
 module _ (m : List ℕ) (i : ℕ) where

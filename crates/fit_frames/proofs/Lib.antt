@@ -1,5 +1,5 @@
 pub mod OperandLaws
-pub mod Slots
+pub mod FrameSlots
 pub mod Counts
 pub mod Walk
 pub mod Forms

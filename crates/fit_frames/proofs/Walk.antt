@@ -9,11 +9,11 @@ use Rattle.words.specs.Walks.{chain}
 use lib.Dec.{eqb}
 use Rattle.spec_machine.specs.Values.{Ty, tBool, typeV}
 use Rattle.spec_language.specs.Flow.{leaves, returns}
-use Rattle.spec_machine.specs.Program.{Program, typeN, varType, wants, gives}
+use Rattle.spec_machine.specs.Program.{Program, typeN, typeOfVar, wants, gives}
 use Rattle.spec_machine.specs.Machine.{Frame, gather, and, wait, branch, check, Control, val, eval, exec}
 use Rattle.spec_machine.specs.Fit.{isConst, comes, comesFrom}
-use Rattle.spec_machine.specs.Test.{areTy, reads, ok, exprIn, stmtIn, exprsIn, hasVar, knownHead, takes, takesNone, given, flows, flowsFrom}
-use Rattle.fit_frames.specs.Travel.{Travel, travel, giving, typed, flown, suits, onward, ends, startOk, start}
+use Rattle.spec_machine.specs.Test.{areTy, reads, ok, exprIn, stmtIn, exprsIn, hasVar, knownOperation, takes, takesNone, controlOver, flows, flowsFrom}
+use Rattle.fit_frames.specs.Incoming.{Incoming, incoming, giving, typed, flown, frameFits, handsOn, ends, startOk, start}
 
 -- ---- tests in another order
 
@@ -34,23 +34,23 @@ apart false w b f c = refl
 
 -- ---- what each walk asks of the frames under a place
 
-abbrev wanted : Program → ℕ → Travel → List Frame → Bool
-wanted P f (travel b t d e) K = pick b (takes P f t K) (takesNone P f K)
+abbrev wanted : Program → ℕ → Incoming → List Frame → Bool
+wanted P f (incoming b t d e) K = pick b (takes P f t K) (takesNone P f K)
 
-abbrev flowing : Program → ℕ → Travel → List Frame → Bool
-flowing P f (travel b t d e) K = flows P f K d
+abbrev flowing : Program → ℕ → Incoming → List Frame → Bool
+flowing P f (incoming b t d e) K = flows P f K d
 
-abbrev coming : Program → ℕ → Travel → List Frame → Bool
-coming P f (travel b t d e) K = e || comes P f K
+abbrev coming : Program → ℕ → Incoming → List Frame → Bool
+coming P f (incoming b t d e) K = e || comes P f K
 
 module _ (P : Program) (f : ℕ) where
   wanted-step : (b : Bool) (t : Ty) (d : Set) (e : Bool) (fr : Frame) (K : List Frame)
-      → wanted P f (travel b t d e) (fr ∷ K) ≡ (typed P f b t fr && wanted P f (onward P f (travel b t d e) fr) K)
+      → wanted P f (incoming b t d e) (fr ∷ K) ≡ (typed P f b t fr && wanted P f (handsOn P f (incoming b t d e) fr) K)
   wanted-step true t d e (gather h vs ns) K =
-      swapped (areTy (wants P h) (map typeV vs ++ (t ∷ map (typeN P f) ns))) (exprsIn P f ns) (takes P f (gives P h) K) (knownHead P h)
+      swapped (areTy (wants P h) (map typeV vs ++ (t ∷ map (typeN P f) ns))) (exprsIn P f ns) (takes P f (gives P h) K) (knownOperation P h)
   wanted-step true t d e (and n) K = third (eqb t tBool) (exprIn P f n) (eqb (typeN P f n) tBool) (takes P f tBool K)
   wanted-step true t d e (wait r) K = refl
-  wanted-step true t d e (Frame.store x) K = sym (and-assoc (eqb t (varType (P .fun f) x)) (hasVar P f x) (takesNone P f K))
+  wanted-step true t d e (Frame.store x) K = sym (and-assoc (eqb t (typeOfVar (P .fun f) x)) (hasVar P f x) (takesNone P f K))
   wanted-step true t d e (branch r q) K = third (eqb t tBool) (stmtIn P f r) (stmtIn P f q) (takesNone P f K)
   wanted-step true t d e Frame.leave K = refl
   wanted-step true t d e check K = refl
@@ -65,7 +65,7 @@ module _ (P : Program) (f : ℕ) where
   wanted-step false t d e Frame.discard K = refl
 
   flowing-step : (b : Bool) (t : Ty) (d : Set) (e : Bool) (fr : Frame) (K : List Frame)
-      → flows P f (fr ∷ K) d ≡ (flown P f d fr && flowing P f (onward P f (travel b t d e) fr) K)
+      → flows P f (fr ∷ K) d ≡ (flown P f d fr && flowing P f (handsOn P f (incoming b t d e) fr) K)
   flowing-step b t d e (gather h vs ns) K = refl
   flowing-step b t d e (and n) K = refl
   flowing-step b t d e (wait r) K = refl
@@ -77,7 +77,7 @@ module _ (P : Program) (f : ℕ) where
   flowing-step b t d e Frame.discard K = refl
 
   coming-step : (b : Bool) (t : Ty) (d : Set) (e : Bool) (fr : Frame) (K : List Frame)
-      → (e || comes P f (fr ∷ K)) ≡ coming P f (onward P f (travel b t d e) fr) K
+      → (e || comes P f (fr ∷ K)) ≡ coming P f (handsOn P f (incoming b t d e) fr) K
   coming-step b t d e (gather h vs ns) K = refl
   coming-step b t d e (and n) K = refl
   coming-step b t d e (wait r) K = sym (or-assoc e (returns (P .stmt f r)) (comes P f K))
@@ -87,26 +87,26 @@ module _ (P : Program) (f : ℕ) where
   coming-step b t d e check K = refl
   coming-step b t d e Frame.discard K = refl
 
-  at-end : (b : Bool) (t : Ty) (d : Set) (e : Bool) → (wanted P f (travel b t d e) [] && (true && (e || false))) ≡ ends (travel b t d e)
+  at-end : (b : Bool) (t : Ty) (d : Set) (e : Bool) → (wanted P f (incoming b t d e) [] && (true && (e || false))) ≡ ends (incoming b t d e)
   at-end true t d e = refl
   at-end false t d e = or-false e
 
   -- the three walks from a place on are the one
-  three-walks : (s : Travel) (K : List Frame) → (wanted P f s K && (flowing P f s K && coming P f s K)) ≡ chain (suits P f) (onward P f) ends s K
-  three-walks (travel b t d e) [] = at-end b t d e
-  three-walks (travel b t d e) (fr ∷ K) =
+  three-walks : (s : Incoming) (K : List Frame) → (wanted P f s K && (flowing P f s K && coming P f s K)) ≡ chain (frameFits P f) (handsOn P f) ends s K
+  three-walks (incoming b t d e) [] = at-end b t d e
+  three-walks (incoming b t d e) (fr ∷ K) =
       rw (wanted-step b t d e fr K, flowing-step b t d e fr K, coming-step b t d e fr K)
-      (apart (typed P f b t fr) (wanted P f (onward P f (travel b t d e) fr) K) (flown P f d fr) (flowing P f (onward P f (travel b t d e) fr) K) (coming P f (onward P f (travel b t d e) fr) K)
-      ∙ ap (λ (x : Bool). (typed P f b t fr && flown P f d fr) && x) (three-walks (onward P f (travel b t d e) fr) K))
+      (apart (typed P f b t fr) (wanted P f (handsOn P f (incoming b t d e) fr) K) (flown P f d fr) (flowing P f (handsOn P f (incoming b t d e) fr) K) (coming P f (handsOn P f (incoming b t d e) fr) K)
+      ∙ ap (λ (x : Bool). (typed P f b t fr && flown P f d fr) && x) (three-walks (handsOn P f (incoming b t d e) fr) K))
 
   -- of a saved caller
   pub caller-walk : (t : Ty) (d : Set) (L : List Frame)
-      → (takes P f t L && (flows P f L d && comes P f L)) ≡ chain (suits P f) (onward P f) ends (giving t d) L
+      → (takes P f t L && (flows P f L d && comes P f L)) ≡ chain (frameFits P f) (handsOn P f) ends (giving t d) L
   caller-walk t d L = three-walks (giving t d) L
 
   -- of the current activation
   pub current-walk : (c : Control) (d : Set) (K : List Frame)
-      → (given P f c K && (flowsFrom P f c K d && comesFrom P f c K)) ≡ (startOk P f d c && chain (suits P f) (onward P f) ends (start P f d c) K)
+      → (controlOver P f c K && (flowsFrom P f c K d && comesFrom P f c K)) ≡ (startOk P f d c && chain (frameFits P f) (handsOn P f) ends (start P f d c) K)
   current-walk (val v) d K = three-walks (start P f d (val v)) K
   current-walk (eval n) d K = first (exprIn P f n) (not (isConst (P .look f n))) (reads P f n d) (takes P f (typeN P f n) K) (flows P f K d) (comes P f K) ∙ ap (λ (x : Bool). startOk P f d (eval n) && x) (three-walks (start P f d (eval n)) K)
     where

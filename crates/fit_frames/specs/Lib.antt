@@ -1,5 +1,5 @@
 pub mod Operands
 pub mod Slots
-pub mod Travel
+pub mod Incoming
 pub mod Meaning
-pub mod Begins
+pub mod StartAnswer

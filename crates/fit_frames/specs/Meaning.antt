@@ -8,18 +8,18 @@ use Rattle.words.specs.Stacks.{blockAt}
 use Rattle.spec_machine.specs.Program.{Program}
 use Rattle.spec_machine.specs.Machine.{Frame}
 use Rattle.spec_image.specs.Decode.{frameOf}
-use Rattle.fit_frames.specs.declared.Down.{Down}
+use Rattle.fit_frames.specs.declared.Incoming.{Incoming}
 use Rattle.fit_frames.specs.declared.Next.{Next}
-use Rattle.fit_frames.specs.Travel.{Travel, travel, suits, onward}
+use Rattle.fit_frames.specs.Incoming.{Incoming, incoming, frameFits, handsOn}
 
 -- what comes down
-unfoldable pub downIs : Down → Travel
-downIs d = travel (d .some) (d .kind) (has (d .set .0)) (d .come)
+unfoldable pub incomingIs : Incoming → Incoming
+incomingIs d = incoming (d .some) (d .kind) (has (d .set .0)) (d .come)
 
 -- the answer of a step over a frame: whether it suits, and where it does what it hands on
-pub record Steps (P : Program) (f : ℕ) (d : Down) (fr : Frame) (r : Next) : Type 0 where
-  pub ok : r .ok ≡ suits P f (downIs d) fr
-  pub on : r .ok ≡ true → downIs (r .down) ≡ onward P f (downIs d) fr
+pub record Steps (P : Program) (f : ℕ) (d : Incoming) (fr : Frame) (r : Next) : Type 0 where
+  pub ok : r .ok ≡ frameFits P f (incomingIs d) fr
+  pub on : r .ok ≡ true → incomingIs (r .down) ≡ handsOn P f (incomingIs d) fr
 
 -- the frame with i frames under it
 abbrev pub frameIn : List ℕ → ℕ → Frame

@@ -1,5 +1,5 @@
 // The walk down an activation's frames, from what stands over them.
-use crate::Down;
+use crate::Incoming;
 use crate::Next;
 use crate::bare;
 use crate::frame_step;
@@ -29,11 +29,11 @@ ghost use Rattle.spec_machine.specs.Machine.{val, eval, exec};
 ghost use Rattle.spec_machine.specs.File.{programOf};
 ghost use Rattle.spec_image.specs.Decode.{frameOf};
 ghost use Rattle.state_words.specs.Meaning.{refIs, controlIs};
-ghost use Rattle.fit_table.specs.Tables.{Tabled};
+ghost use Rattle.fit_table.specs.Tables.{TableSays};
 ghost use Rattle.fit_nodes.specs.Part.{Part};
-ghost use Rattle.fit_frames.specs.Travel.{suits, onward, ends};
-ghost use Rattle.fit_frames.specs.Meaning.{downIs};
-ghost use Rattle.fit_frames.specs.Begins.{Begins};
+ghost use Rattle.fit_frames.specs.Incoming.{frameFits, handsOn, ends};
+ghost use Rattle.fit_frames.specs.Meaning.{incomingIs};
+ghost use Rattle.fit_frames.specs.StartAnswer.{StartAnswer};
 
 // The answer to a control that is none of the function.
 fn refused(set: VarSet) -> Next
@@ -56,11 +56,11 @@ pub fn frames_fit(
     m: &[u32],
     low: usize,
     k: usize,
-    d: Down,
+    d: Incoming,
 ) -> bool
-    requires part { ⌜ Part (now file) f (now part) n × Decls (now part) n (now decls) × Tabled (now part) n (now table) ⌝ }
+    requires part { ⌜ Part (now file) f (now part) n × Decls (now part) n (now decls) × TableSays (now part) n (now table) ⌝ }
     requires room { ⌜ (16384 ≤ length (now m)) × (low + k ≤ 512) ⌝ }
-    ensures { λ r. ⌜ r ≡ chain (suits (programOf (now (file .entry))) f) (onward (programOf (now (file .entry))) f) ends (downIs d) (entries 20 frameOf (now (m .entry)) (4480 + low * 20) k) ⌝ }
+    ensures { λ r. ⌜ r ≡ chain (frameFits (programOf (now (file .entry))) f) (handsOn (programOf (now (file .entry))) f) ends (incomingIs d) (entries 20 frameOf (now (m .entry)) (4480 + low * 20) k) ⌝ }
 {
     let mut i = k;
     let mut down = d;
@@ -77,7 +77,7 @@ pub fn frames_fit(
 
 // A value of a type at hand, over the frames.
 fn begin_value(set: VarSet, kind: u8) -> Next
-    ensures { λ r. ⌜ ((P : Program) (f : ℕ) (v : values.Value) → typeV v ≡ kind → Begins P f (has (set .0)) (val v) r) ⌝ }
+    ensures { λ r. ⌜ ((P : Program) (f : ℕ) (v : values.Value) → typeV v ≡ kind → StartAnswer P f (has (set .0)) (val v) r) ⌝ }
 {
     Next {
         ok: true,
@@ -96,8 +96,8 @@ fn begin_expression(
     x: u32,
     set: VarSet,
 ) -> Next
-    requires { ⌜ Part (now file) f (now part) n × Decls (now part) n (now decls) × Tabled (now part) n (now table) ⌝ }
-    ensures { λ r. ⌜ Begins (programOf (now (file .entry))) f (has (set .0)) (eval x) r ⌝ }
+    requires { ⌜ Part (now file) f (now part) n × Decls (now part) n (now decls) × TableSays (now part) n (now table) ⌝ }
+    ensures { λ r. ⌜ StartAnswer (programOf (now (file .entry))) f (has (set .0)) (eval x) r ⌝ }
 {
     if !is_expression(file, f, part, n, x) {
         return refused(set);
@@ -123,8 +123,8 @@ fn begin_statement(
     r: Ref,
     set: VarSet,
 ) -> Next
-    requires { ⌜ Part (now file) f (now part) n × Tabled (now part) n (now table) ⌝ }
-    ensures { λ b. ⌜ Begins (programOf (now (file .entry))) f (has (set .0)) (exec (refIs r)) b ⌝ }
+    requires { ⌜ Part (now file) f (now part) n × TableSays (now part) n (now table) ⌝ }
+    ensures { λ b. ⌜ StartAnswer (programOf (now (file .entry))) f (has (set .0)) (exec (refIs r)) b ⌝ }
 {
     if !is_statement(file, f, part, n, r) {
         return refused(set);
@@ -146,8 +146,8 @@ pub fn begin(
     set: VarSet,
     c: Control,
 ) -> Next
-    requires { ⌜ Part (now file) f (now part) n × Decls (now part) n (now decls) × Tabled (now part) n (now table) ⌝ }
-    ensures { λ r. ⌜ Begins (programOf (now (file .entry))) f (has (set .0)) (controlIs c) r ⌝ }
+    requires { ⌜ Part (now file) f (now part) n × Decls (now part) n (now decls) × TableSays (now part) n (now table) ⌝ }
+    ensures { λ r. ⌜ StartAnswer (programOf (now (file .entry))) f (has (set .0)) (controlIs c) r ⌝ }
 {
     match c {
         Control::Nothing => begin_value(set, 0),

@@ -24,14 +24,14 @@ ghost use Rattle.spec_machine.specs.Machine.{and};
 ghost use Rattle.spec_machine.specs.File.{programOf};
 ghost use Rattle.spec_image.specs.Decode.{operands};
 ghost use Rattle.state_words.specs.Meaning.{frameAt};
-ghost use Rattle.fit_table.specs.Tables.{Tabled};
+ghost use Rattle.fit_table.specs.Tables.{TableSays};
 ghost use Rattle.fit_nodes.specs.Part.{Part};
 ghost use Rattle.fit_frames.specs.Slots.{slotsIn};
-ghost use Rattle.fit_frames.specs.Travel.{travel};
-ghost use Rattle.fit_frames.specs.Meaning.{downIs, Steps, frameIn};
+ghost use Rattle.fit_frames.specs.Incoming.{incoming};
+ghost use Rattle.fit_frames.specs.Meaning.{incomingIs, Steps, frameIn};
 
 // What comes down to a frame: whether a value is given, its type, the variables that have a value, whether something that returns has come.
-pub struct Down {
+pub struct Incoming {
     pub some: bool,
     pub kind: u8,
     pub set: VarSet,
@@ -41,21 +41,21 @@ pub struct Down {
 // Whether a frame suits what comes down to it, and what it hands on where it does.
 pub struct Next {
     pub ok: bool,
-    pub down: Down,
+    pub down: Incoming,
 }
 
 // The answer of a frame that does not suit.
-fn refused(d: Down) -> Next
+fn refused(d: Incoming) -> Next
     ensures { λ r. ⌜ r .ok ≡ false ⌝ }
 {
     Next { ok: false, down: d }
 }
 
 // A value of a type handed on.
-pub fn giving(set: VarSet, come: bool, kind: u8) -> Down
-    ensures { λ r. ⌜ downIs r ≡ travel true kind (has (set .0)) come ⌝ }
+pub fn giving(set: VarSet, come: bool, kind: u8) -> Incoming
+    ensures { λ r. ⌜ incomingIs r ≡ incoming true kind (has (set .0)) come ⌝ }
 {
-    Down {
+    Incoming {
         some: true,
         kind,
         set,
@@ -64,10 +64,10 @@ pub fn giving(set: VarSet, come: bool, kind: u8) -> Down
 }
 
 // No value handed on.
-pub fn bare(set: VarSet, come: bool) -> Down
-    ensures { λ r. ⌜ downIs r ≡ travel false 0 (has (set .0)) come ⌝ }
+pub fn bare(set: VarSet, come: bool) -> Incoming
+    ensures { λ r. ⌜ incomingIs r ≡ incoming false 0 (has (set .0)) come ⌝ }
 {
-    Down {
+    Incoming {
         some: false,
         kind: 0,
         set,
@@ -85,9 +85,9 @@ fn operator_step(
     table: &[u64],
     m: &[u32],
     i: usize,
-    d: Down,
+    d: Incoming,
 ) -> Next
-    requires part { ⌜ Part (now file) f (now part) n × Decls (now part) n (now decls) × Tabled (now part) n (now table) ⌝ }
+    requires part { ⌜ Part (now file) f (now part) n × Decls (now part) n (now decls) × TableSays (now part) n (now table) ⌝ }
     requires room { ⌜ (16384 ≤ length (now m)) × (i < 512) ⌝ }
     ensures { λ r. ⌜ Steps (programOf (now (file .entry))) f d (operands (op (getD (now (m .entry)) (frameAt i + 1) 0)) (getD (now (m .entry)) (frameAt i + 2) 0) (getD (now (m .entry)) (frameAt i + 3) 0) (slotsIn (now (m .entry)) i)) r ⌝ }
 {
@@ -114,9 +114,9 @@ fn call_step(
     table: &[u64],
     m: &[u32],
     i: usize,
-    d: Down,
+    d: Incoming,
 ) -> Next
-    requires part { ⌜ Part (now file) f (now part) n × Decls (now part) n (now decls) × Tabled (now part) n (now table) ⌝ }
+    requires part { ⌜ Part (now file) f (now part) n × Decls (now part) n (now decls) × TableSays (now part) n (now table) ⌝ }
     requires room { ⌜ (16384 ≤ length (now m)) × (i < 512) ⌝ }
     ensures { λ r. ⌜ Steps (programOf (now (file .entry))) f d (operands (fn (getD (now (m .entry)) (frameAt i + 1) 0)) (getD (now (m .entry)) (frameAt i + 2) 0) (getD (now (m .entry)) (frameAt i + 3) 0) (slotsIn (now (m .entry)) i)) r ⌝ }
 {
@@ -156,9 +156,9 @@ fn and_step(
     decls: &[usize; 64],
     table: &[u64],
     x: u32,
-    d: Down,
+    d: Incoming,
 ) -> Next
-    requires { ⌜ Part (now file) f (now part) n × Decls (now part) n (now decls) × Tabled (now part) n (now table) ⌝ }
+    requires { ⌜ Part (now file) f (now part) n × Decls (now part) n (now decls) × TableSays (now part) n (now table) ⌝ }
     ensures { λ r. ⌜ Steps (programOf (now (file .entry))) f d (and x) r ⌝ }
 {
     if !d.some {
@@ -174,8 +174,8 @@ fn and_step(
 }
 
 // What comes down, taken.
-fn taken(d: Down) -> Down
-    ensures { λ r. ⌜ downIs r ≡ travel false 0 (has (d .set .0)) (d .come) ⌝ }
+fn taken(d: Incoming) -> Incoming
+    ensures { λ r. ⌜ incomingIs r ≡ incoming false 0 (has (d .set .0)) (d .come) ⌝ }
 {
     let set = d.set;
     bare(set, d.come)
@@ -191,9 +191,9 @@ pub fn frame_step(
     table: &[u64],
     m: &[u32],
     i: usize,
-    d: Down,
+    d: Incoming,
 ) -> Next
-    requires part { ⌜ Part (now file) f (now part) n × Decls (now part) n (now decls) × Tabled (now part) n (now table) ⌝ }
+    requires part { ⌜ Part (now file) f (now part) n × Decls (now part) n (now decls) × TableSays (now part) n (now table) ⌝ }
     requires room { ⌜ (16384 ≤ length (now m)) × (i < 512) ⌝ }
     ensures { λ r. ⌜ Steps (programOf (now (file .entry))) f d (frameIn (now (m .entry)) i) r ⌝ }
 {

@@ -13,7 +13,7 @@ ghost use Rattle.spec_machine.specs.Values.{typeV};
 ghost use Rattle.spec_machine.specs.File.{programOf};
 ghost use Rattle.spec_image.specs.Decode.{valueOf, valuesOf, nodesOf};
 ghost use Rattle.state_words.specs.Meaning.{frameAt};
-ghost use Rattle.fit_table.specs.Tables.{Tabled};
+ghost use Rattle.fit_table.specs.Tables.{TableSays};
 ghost use Rattle.fit_nodes.specs.Part.{Part};
 ghost use Rattle.fit_frames.specs.Operands.{wantOf, valuesSuit, nodeSuits, nodesSuit, gathered};
 ghost use Rattle.fit_frames.specs.Slots.{slotsIn};
@@ -64,7 +64,7 @@ pub fn node_suits(
     x: u32,
     set: VarSet,
 ) -> bool
-    requires { ⌜ Part (now file) f (now part) n × Decls (now part) n (now decls) × Tabled (now part) n (now table) ⌝ }
+    requires { ⌜ Part (now file) f (now part) n × Decls (now part) n (now decls) × TableSays (now part) n (now table) ⌝ }
     ensures { λ r. ⌜ r ≡ nodeSuits (programOf (now (file .entry))) f (has (set .0)) want x ⌝ }
 {
     if !is_expression(file, f, part, n, x) {
@@ -91,7 +91,7 @@ fn nodes_suit(
     end: usize,
     set: VarSet,
 ) -> bool
-    requires part { ⌜ Part (now file) f (now part) n × Decls (now part) n (now decls) × Tabled (now part) n (now table) ⌝ }
+    requires part { ⌜ Part (now file) f (now part) n × Decls (now part) n (now decls) × TableSays (now part) n (now table) ⌝ }
     requires room { ⌜ (16384 ≤ length (now m)) × (i < 512) × (y ≤ end) × (end < 8) ⌝ }
     ensures { λ r. ⌜ r ≡ nodesSuit (programOf (now (file .entry))) f (has (set .0)) (wantOf mask) (y + 1) (nodesOf (end - y) (drop (2 * y) (slotsIn (now (m .entry)) i))) ⌝ }
 {
@@ -131,7 +131,7 @@ pub fn gathers(
     kind: u8,
     set: VarSet,
 ) -> bool
-    requires part { ⌜ Part (now file) f (now part) n × Decls (now part) n (now decls) × Tabled (now part) n (now table) ⌝ }
+    requires part { ⌜ Part (now file) f (now part) n × Decls (now part) n (now decls) × TableSays (now part) n (now table) ⌝ }
     requires room { ⌜ (16384 ≤ length (now m)) × (i < 512) × (count ≤ 8) ⌝ }
     ensures { λ r. ⌜ r ≡ gathered (programOf (now (file .entry))) f (has (set .0)) (wantOf mask) count kind (valuesOf (getD (now (m .entry)) (frameAt i + 2) 0) (slotsIn (now (m .entry)) i)) (nodesOf (getD (now (m .entry)) (frameAt i + 3) 0) (drop (2 * getD (now (m .entry)) (frameAt i + 2) 0) (slotsIn (now (m .entry)) i))) ⌝ }
 {

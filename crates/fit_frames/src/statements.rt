@@ -1,5 +1,5 @@
 // Frames that a statement leaves: one that waits, an assignment, the branches of an if, and a return.
-use crate::Down;
+use crate::Incoming;
 use crate::Next;
 use crate::bare;
 use crate::refused;
@@ -22,7 +22,7 @@ ghost use Rattle.spec_machine.specs.File.{programOf};
 ghost use Rattle.spec_machine.specs.Test.{stmtIn};
 ghost use Rattle.spec_image.specs.Decode.{refOf};
 ghost use Rattle.state_words.specs.Meaning.{refIs};
-ghost use Rattle.fit_table.specs.Tables.{Tabled};
+ghost use Rattle.fit_table.specs.Tables.{TableSays};
 ghost use Rattle.fit_nodes.specs.Part.{Part};
 ghost use Rattle.fit_frames.specs.Meaning.{Steps};
 
@@ -34,9 +34,9 @@ pub fn wait_step(
     n: usize,
     table: &[u64],
     x: u32,
-    d: Down,
+    d: Incoming,
 ) -> Next
-    requires { ⌜ Part (now file) f (now part) n × Tabled (now part) n (now table) ⌝ }
+    requires { ⌜ Part (now file) f (now part) n × TableSays (now part) n (now table) ⌝ }
     ensures { λ r. ⌜ Steps (programOf (now (file .entry))) f d (wait (refOf x)) r ⌝ }
 {
     if d.some {
@@ -62,7 +62,7 @@ pub fn store_step(
     n: usize,
     decls: &[usize; 64],
     x: u32,
-    d: Down,
+    d: Incoming,
 ) -> Next
     requires { ⌜ Part (now file) f (now part) n × Decls (now part) n (now decls) ⌝ }
     ensures { λ r. ⌜ Steps (programOf (now (file .entry))) f d (Frame.store x) r ⌝ }
@@ -88,9 +88,9 @@ pub fn branch_step(
     table: &[u64],
     x: u32,
     y: u32,
-    d: Down,
+    d: Incoming,
 ) -> Next
-    requires { ⌜ Part (now file) f (now part) n × Tabled (now part) n (now table) ⌝ }
+    requires { ⌜ Part (now file) f (now part) n × TableSays (now part) n (now table) ⌝ }
     ensures { λ r. ⌜ Steps (programOf (now (file .entry))) f d (branch (refOf x) (refOf y)) r ⌝ }
 {
     if !d.some {
@@ -119,9 +119,9 @@ fn branches(
     table: &[u64],
     r: Ref,
     q: Ref,
-    d: Down,
+    d: Incoming,
 ) -> Next
-    requires part { ⌜ Part (now file) f (now part) n × Tabled (now part) n (now table) ⌝ }
+    requires part { ⌜ Part (now file) f (now part) n × TableSays (now part) n (now table) ⌝ }
     requires statements { ⌜ (stmtIn (programOf (now file)) f (refIs r) ≡ true) × (stmtIn (programOf (now file)) f (refIs q) ≡ true) ⌝ }
     requires given { ⌜ (d .some ≡ true) × (d .kind ≡ 2) ⌝ }
     ensures { λ b. ⌜ Steps (programOf (now (file .entry))) f d (branch (refIs r) (refIs q)) b ⌝ }
@@ -141,7 +141,7 @@ fn branches(
 }
 
 // A return's value.
-pub fn leave_step(file: &[u8], f: usize, d: Down) -> Next
+pub fn leave_step(file: &[u8], f: usize, d: Incoming) -> Next
     requires { ⌜ 12 * (1 + f) + 12 ≤ length (now file) ⌝ }
     ensures { λ r. ⌜ Steps (programOf (now (file .entry))) f d Frame.leave r ⌝ }
 {

@@ -15,24 +15,24 @@ use Rattle.words.proofs.Entries.{region-zeros}
 use Rattle.words.proofs.Tests.{zeros-all}
 use Rattle.spec_machine.specs.Values.{nothing, int, truth}
 use Rattle.spec_machine.specs.Machine.{Exception, abort, val, eval, exec, State, exception, main, returned, running}
-use Rattle.spec_machine.specs.Fit.{Within, callerLimit, frameLimit}
+use Rattle.spec_machine.specs.Fit.{WithinLimits, callerLimit, frameLimit}
 use Rattle.spec_image.specs.Layout.{filled, frameWords, controlWords, activationWords}
 use Rattle.spec_image.specs.Image.{headWords, activationsOf, framesOf, image}
 use Rattle.spec_image.specs.Decode.{framesHeld, heldIn, activationsIn}
 use Rattle.spec_image.specs.Memory.{size, Holds}
 use Rattle.spec_image.specs.Narrow.{NarrowFrame, NarrowActivation, Narrow}
-use Rattle.spec_image.proofs.Blocks.{length-filled, frame-wide, activation-wide, every-so}
+use Rattle.spec_image.proofs.BlockLengths.{length-filled, frame-wide, activation-wide, every-so}
 use Rattle.spec_image.proofs.Images.{length-frames, few-frames, frames-held, activationRoom, frameRoom, length-activations, image-parts, head-word, count-in, activations-in}
 use Rattle.spec_image.proofs.Memory.{held-whole}
-use Rattle.fit_image.specs.Blocks.{frameOk, activationOk}
-use Rattle.fit_image.specs.Words.{tagOk, headOk, activationsOk, framesOk, imageOk}
-use Rattle.fit_image.proofs.Slots.{control-pass}
-use Rattle.fit_image.proofs.Blocks.{frame-passes, activation-passes}
+use Rattle.fit_image.specs.BlockTests.{frameOk, activationOk}
+use Rattle.fit_image.specs.MemoryTest.{tagOk, headOk, activationsOk, framesOk, imageOk}
+use Rattle.fit_image.proofs.SlotTests.{control-pass}
+use Rattle.fit_image.proofs.BlockTests.{frame-passes, activation-passes}
 use Rattle.fit_image.proofs.Passing.{passing-region}
 
 -- ---- the head
 
-tag-passes : (s : State) → Within s → let H = headWords s in tagOk (getD H 0 0) (getD H 1 0) (getD H 2 0) (getD H 3 0) (getD H 4 0) ≡ true
+tag-passes : (s : State) → WithinLimits s → let H = headWords s in tagOk (getD H 0 0) (getD H 1 0) (getD H 2 0) (getD H 3 0) (getD H 4 0) ≡ true
 unfolding headWords tagOk
 tag-passes (State.value c) w = refl
 tag-passes (exception Exception.arith) w = refl
@@ -57,7 +57,7 @@ head-zeros (running (val (truth b)) α f η K A) = refl
 head-zeros (running (eval n) α f η K A) = refl
 head-zeros (running (exec r) α f η K A) = refl
 
-few : (s : State) → Within s → length (framesOf s) ≤ frameLimit
+few : (s : State) → WithinLimits s → length (framesOf s) ≤ frameLimit
 unfolding framesOf
 few (State.value c) w = omega arith
 few (exception x) w = omega arith
@@ -65,7 +65,7 @@ few (main α) w = omega arith
 few (returned α c) w = omega arith
 few (running c α f η K A) w = simp (length-append, length-frames A) (w .1)
 
-module _ (s : State) (R : List ℕ) (w : Within s) (n : Narrow s) where
+module _ (s : State) (R : List ℕ) (w : WithinLimits s) (n : Narrow s) where
   head-passes : headOk (image s ++ R) ≡ true
   unfolding headOk
   head-passes =
@@ -129,5 +129,5 @@ module _ (s : State) (R : List ℕ) (w : Within s) (n : Narrow s) where
       rw (head-passes, c, activations-pass, h, le-leb (length (framesOf s)) frameLimit (few s w)) frames-pass
 
 -- a memory that holds a state within the limits, and narrow, passes
-pub image-complete : (l : List ℕ) (s : State) → Within s → Narrow s → Holds l s → imageOk l ≡ true
+pub image-complete : (l : List ℕ) (s : State) → WithinLimits s → Narrow s → Holds l s → imageOk l ≡ true
 image-complete l s w n h = ap imageOk (held-whole l s h) ∙ image-passes s (drop size l) w n

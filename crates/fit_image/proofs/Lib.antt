@@ -1,11 +1,11 @@
-pub mod Slots
-pub mod Blocks
+pub mod SlotTests
+pub mod BlockTests
 pub mod Passing
 pub mod Runs
 pub mod Sound
 pub mod Complete
 pub mod Loops
-pub mod Tables
+pub mod NoSuchTags
 pub mod Ways
 pub mod Rooms
 pub mod Samples

@@ -8,8 +8,8 @@ use native.Mathlib.Nat.{add-zero, sub-zero}
 use lib.ListN.{getD, take, drop}
 use lib.Seq.{drop-drop, getD-drop}
 use borrow.Author.Tests.{ne-eqb}
-use Rattle.fit_image.specs.Blocks.{valueOk, valuesOk, nodesOk}
-use Rattle.fit_image.specs.Words.{passing}
+use Rattle.fit_image.specs.BlockTests.{valueOk, valuesOk, nodesOk}
+use Rattle.fit_image.specs.MemoryTest.{passing}
 
 module _ (s : List ℕ) (n i : ℕ) (h : i < n) where
   -- what is left is one more than what is left after it

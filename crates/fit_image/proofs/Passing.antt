@@ -10,7 +10,7 @@ use lib.Seq.{take-add, drop-drop, length-take-le}
 use Rattle.words.specs.Stacks.{words, region, blockAt, entries, Every, Wide}
 use Rattle.words.proofs.Tests.{both}
 use Rattle.words.proofs.Entries.{block-over}
-use Rattle.fit_image.specs.Words.{passing}
+use Rattle.fit_image.specs.MemoryTest.{passing}
 
 module _ {E : Type 0} (w : ℕ) (enc : E → List ℕ) (ok : List ℕ → Bool) where
   pub passing-sound : (dec : List ℕ → E) (P : E → Type 0) → ((b : List ℕ) → length b ≡ w → ok b ≡ true → (enc (dec b) ≡ b) × P (dec b))

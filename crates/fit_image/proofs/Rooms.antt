@@ -10,8 +10,8 @@ use Rattle.words.specs.Blocks.{allZero}
 use Rattle.words.proofs.Tests.{both}
 use Rattle.spec_machine.specs.Fit.{frameLimit}
 use Rattle.spec_image.specs.Decode.{heldIn}
-use Rattle.fit_image.specs.Blocks.{frameOk, activationOk}
-use Rattle.fit_image.specs.Words.{passing, tagOk, headOk, activationsOk, framesOk, imageOk}
+use Rattle.fit_image.specs.BlockTests.{frameOk, activationOk}
+use Rattle.fit_image.specs.MemoryTest.{passing, tagOk, headOk, activationsOk, framesOk, imageOk}
 use Rattle.fit_image.proofs.Runs.{few-said}
 
 module _ (l : List ℕ) (n : ℕ) where

@@ -13,13 +13,13 @@ use Rattle.words.specs.Segments.{total}
 use Rattle.words.proofs.Tests.{both}
 use Rattle.spec_machine.specs.Machine.{Frame, Control}
 use Rattle.spec_machine.specs.Fit as fit
-use Rattle.spec_machine.specs.Fit.{Within, callerLimit, frameLimit}
+use Rattle.spec_machine.specs.Fit.{WithinLimits, callerLimit, frameLimit}
 use Rattle.spec_image.specs.Layout.{controlWords, Activation, activation}
 use Rattle.spec_image.specs.Image.{savedActivations, savedFrames, headWords, activationsOf, framesOf}
 use Rattle.spec_image.specs.Decode.{framesHeld, callersOf, runningOf}
 use Rattle.spec_image.proofs.Images.{length-saved, length-frames}
-use Rattle.fit_image.specs.Words.{tagOk}
-use Rattle.fit_image.proofs.Blocks.{zeros}
+use Rattle.fit_image.specs.MemoryTest.{tagOk}
+use Rattle.fit_image.proofs.BlockTests.{zeros}
 
 -- ---- activations and frames as a running state
 
@@ -40,7 +40,7 @@ module _ (c : Control) where
     pub activations : activationsOf (runningOf c X F) ≡ X
     pub frames : framesOf (runningOf c X F) ≡ F
     pub head : headWords (runningOf c X F) ≡ 2 ∷ 0 ∷ length X ∷ controlWords c
-    pub within : length X ≤ callerLimit → length F ≤ frameLimit → Within (runningOf c X F)
+    pub within : length X ≤ callerLimit → length F ≤ frameLimit → WithinLimits (runningOf c X F)
 
   pub runs : (X : List Activation) (F : List Frame) → 1 ≤ length X → length F ≡ total framesHeld X → Runs X F
   unfolding activationsOf framesOf headWords runningOf framesHeld
@@ -50,7 +50,7 @@ module _ (c : Control) where
       let d : length (drop k F) ≡ length F - k = length-drop k F in
       let i = callers-cut X (drop k F) (omega arith) in
       let a : length (callersOf X (drop k F)) ≡ length X = sym (length-saved (callersOf X (drop k F))) ∙ ap length (i .0) in
-      let b : fit.savedFrames (callersOf X (drop k F)) ≡ length F - k = sym (length-frames (callersOf X (drop k F))) ∙ ap length (i .1) ∙ d in
+      let b : fit.savedFrameCount (callersOf X (drop k F)) ≡ length F - k = sym (length-frames (callersOf X (drop k F))) ∙ ap length (i .1) ∙ d in
       record {
         activations = rw (n, i .0);
         frames = rw (i .1) (take-append-drop k F);

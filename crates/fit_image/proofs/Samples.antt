@@ -6,14 +6,14 @@ use Prim.Native.Nat.{ℕ}
 use lib.ListN.{take, replicate}
 use Rattle.spec_machine.specs.Values.{nothing, int, truth}
 use Rattle.spec_machine.specs.Program.{op, fn, node, ifOf}
-use Rattle.spec_machine.specs.Machine.{arith, abort, Frame, gather, and, wait, branch, check, val, saved, calm, State, exception, main, returned, running}
+use Rattle.spec_machine.specs.Machine.{arith, abort, Frame, gather, and, wait, branch, check, val, saved, emptyEnv, State, exception, main, returned, running}
 use Rattle.spec_image.specs.Layout.{filled, bit, valueWords, valuesWords, nodesWords, refWord, block, gathering, frameWords, controlWords, activation, activationWords}
 use Rattle.spec_image.specs.Decode.{activationOf, framesHeld}
 use Rattle.spec_image.specs.Image.{savedActivations, savedFrames, headWords, activationsOf, framesOf, image}
 use Rattle.spec_image.proofs.Samples.{looping, first, inside}
 use Rattle.spec_image.proofs.Verdicts.{change, changed}
-use Rattle.fit_image.specs.Blocks.{valueOk, controlOk, operandsOk, frameOk, activationOk}
-use Rattle.fit_image.specs.Words.{tagOk, headOk, activationsOk, framesOk, imageOk}
+use Rattle.fit_image.specs.BlockTests.{valueOk, controlOk, operandsOk, frameOk, activationOk}
+use Rattle.fit_image.specs.MemoryTest.{tagOk, headOk, activationsOk, framesOk, imageOk}
 
 -- ---- frames
 
@@ -52,18 +52,18 @@ activations-fail = refl
 
 -- 32 activations
 abbrev full : State
-full = running (val (truth true)) calm 5 (replicate 64 (int 9)) (replicate 3 widest) (replicate 31 (saved 127 (int 7 ∷ []) (widest ∷ [])))
+full = running (val (truth true)) emptyEnv 5 (replicate 64 (int 9)) (replicate 3 widest) (replicate 31 (saved 127 (int 7 ∷ []) (widest ∷ [])))
 
 images-pass : map (λ s. imageOk (image s ++ (7 ∷ 8 ∷ [])))
-    (main calm ∷ looping ∷ first ∷ inside ∷ full ∷ returned calm 3 ∷ State.value 3 ∷ exception arith ∷ exception abort ∷ [])
+    (main emptyEnv ∷ looping ∷ first ∷ inside ∷ full ∷ returned emptyEnv 3 ∷ State.value 3 ∷ exception arith ∷ exception abort ∷ [])
     ≡ replicate 9 true
 unfolding filled bit valueWords valuesWords nodesWords refWord block gathering frameWords controlWords activationWords savedActivations savedFrames headWords activationsOf framesOf image valueOk controlOk operandsOk frameOk activationOk tagOk headOk activationsOk framesOk imageOk activationOf framesHeld
 images-pass = refl
 
 -- a state past a limit, and one that is not narrow
 images-fail : map (λ s. imageOk (image s))
-    (running (val nothing) calm 0 [] [] (replicate 32 (saved 0 [] [])) ∷ running (val nothing) calm 0 [] (replicate 513 Frame.leave) []
-    ∷ running (val nothing) calm 0 (replicate 65 nothing) [] [] ∷ running (val nothing) calm 0 [] (gather (fn 0) [] (replicate 9 1) ∷ []) [] ∷ [])
+    (running (val nothing) emptyEnv 0 [] [] (replicate 32 (saved 0 [] [])) ∷ running (val nothing) emptyEnv 0 [] (replicate 513 Frame.leave) []
+    ∷ running (val nothing) emptyEnv 0 (replicate 65 nothing) [] [] ∷ running (val nothing) emptyEnv 0 [] (gather (fn 0) [] (replicate 9 1) ∷ []) [] ∷ [])
     ≡ replicate 4 false
 unfolding filled bit valueWords valuesWords nodesWords refWord block gathering frameWords controlWords activationWords savedActivations savedFrames headWords activationsOf framesOf image valueOk controlOk operandsOk frameOk activationOk tagOk headOk activationsOk framesOk imageOk activationOf framesHeld
 images-fail = refl
@@ -72,7 +72,7 @@ images-fail = refl
 -- word after the last frame's room; no activation, 33; no form, a bool of 2, a word of nothing; a frame too few, too many, and
 -- more than words have; a word above the last activation and above the last frame
 changed-fail : map (λ c. imageOk (changed c))
-    (change (main calm) 0 0 ∷ change (main calm) 0 7 ∷ change (exception arith) 1 1 ∷ change inside 1 1 ∷ change (State.value 3) 3 1 ∷ change (main calm) 2 1
+    (change (main emptyEnv) 0 0 ∷ change (main emptyEnv) 0 7 ∷ change (exception arith) 1 1 ∷ change inside 1 1 ∷ change (State.value 3) 3 1 ∷ change (main emptyEnv) 2 1
     ∷ change inside 5 1 ∷ change inside 127 1 ∷ change inside 16383 1 ∷ change inside 14720 1 ∷ change inside 2 0 ∷ change full 2 33
     ∷ change inside 3 0 ∷ change inside 3 6 ∷ change inside 3 3 ∷ change inside 3 1 ∷ change inside 265 1 ∷ change inside 265 3 ∷ change inside 265 4294967295
     ∷ change inside 400 1 ∷ change inside 4560 9 ∷ change inside 14719 1 ∷ [])

@@ -13,18 +13,18 @@ use Rattle.words.specs.Stacks.{region, entries, Every}
 use Rattle.words.specs.Segments.{total}
 use Rattle.words.proofs.Tests.{both}
 use Rattle.words.proofs.Entries.{length-entries, region-sound}
-use Rattle.spec_machine.specs.Machine.{Exception, abort, calm, State, exception, main, returned}
-use Rattle.spec_machine.specs.Fit.{Within, callerLimit, frameLimit}
+use Rattle.spec_machine.specs.Machine.{Exception, abort, emptyEnv, State, exception, main, returned}
+use Rattle.spec_machine.specs.Fit.{WithinLimits, callerLimit, frameLimit}
 use Rattle.spec_image.specs.Layout.{filled, frameWords, activationWords}
 use Rattle.spec_image.specs.Image.{headWords, activationsOf, framesOf, image}
 use Rattle.spec_image.specs.Decode.{frameOf, controlOf, activationOf, framesHeld, heldIn, runningOf, activationsIn, framesIn, states, stateOf}
 use Rattle.spec_image.specs.Memory.{size, Holds}
 use Rattle.spec_image.specs.Narrow.{NarrowFrame, NarrowActivation, Narrow}
 use Rattle.spec_image.proofs.Rooms.{rooms}
-use Rattle.fit_image.specs.Blocks.{controlOk, frameOk, activationOk}
-use Rattle.fit_image.specs.Words.{passing, tagOk, headOk, activationsOk, framesOk, imageOk}
-use Rattle.fit_image.proofs.Slots.{control-sound}
-use Rattle.fit_image.proofs.Blocks.{zeros, frame-sound, activation-sound}
+use Rattle.fit_image.specs.BlockTests.{controlOk, frameOk, activationOk}
+use Rattle.fit_image.specs.MemoryTest.{passing, tagOk, headOk, activationsOk, framesOk, imageOk}
+use Rattle.fit_image.proofs.SlotTests.{control-sound}
+use Rattle.fit_image.proofs.BlockTests.{zeros, frame-sound, activation-sound}
 use Rattle.fit_image.proofs.Passing.{passing-sound}
 use Rattle.fit_image.proofs.Runs.{runs, head-sound, plain, few-said}
 
@@ -119,8 +119,8 @@ module _ (l : List ℕ) (long : 16384 ≤ length l) where
 
     -- a state that has the words' head, activations and frames
     module _ (s : State) where
-      finish : stateOf l ≡ s → take 128 l ≡ filled 128 (headWords s) → activationsOf s ≡ activationsIn l → framesOf s ≡ framesIn l → Within s
-          → Holds l (stateOf l) × Within (stateOf l) × Narrow (stateOf l)
+      finish : stateOf l ≡ s → take 128 l ≡ filled 128 (headWords s) → activationsOf s ≡ activationsIn l → framesOf s ≡ framesIn l → WithinLimits s
+          → Holds l (stateOf l) × WithinLimits (stateOf l) × Narrow (stateOf l)
       unfolding image rooms
       finish d h a f w =
           let g : rooms (filled 128 (headWords s)) (activationsOf s) (framesOf s) ≡ image s = refl in
@@ -130,14 +130,14 @@ module _ (l : List ℕ) (long : 16384 ≤ length l) where
 
     -- a state that does not run, by its tag and its int
     still : (s : State) (t i : ℕ) → stateOf l ≡ s → getD l 0 0 ≡ t → getD l 1 0 ≡ i → (getD l 2 0 ≡ 0) × (getD l 3 0 ≡ 0) × (getD l 4 0 ≡ 0)
-        → filled 128 (headWords s) ≡ t ∷ i ∷ replicate 126 0 → activationsOf s ≡ [] → framesOf s ≡ [] → Within s
-        → Holds l (stateOf l) × Within (stateOf l) × Narrow (stateOf l)
+        → filled 128 (headWords s) ≡ t ∷ i ∷ replicate 126 0 → activationsOf s ≡ [] → framesOf s ≡ [] → WithinLimits s
+        → Holds l (stateOf l) × WithinLimits (stateOf l) × Narrow (stateOf l)
     unfolding activationsIn framesIn
     still s t i d ht hi z h a f w = finish s d (words ∙ rw (ht, hi, z .0, z .1, z .2) (sym h)) (a ∙ rw (z .0)) (f ∙ rw (z .0)) w
 
     -- a state that runs
     run-on : getD l 0 0 ≡ 2 → getD l 1 0 ≡ 0 → 1 ≤ getD l 2 0 → controlOk (getD l 3 0) (getD l 4 0) ≡ true
-        → Holds l (stateOf l) × Within (stateOf l) × Narrow (stateOf l)
+        → Holds l (stateOf l) × WithinLimits (stateOf l) × Narrow (stateOf l)
     unfolding stateOf states activationsIn framesIn filled
     run-on ht hi hn hc =
         let c = controlOf (getD l 3 0) (getD l 4 0) in
@@ -150,17 +150,17 @@ module _ (l : List ℕ) (long : 16384 ≤ length l) where
         finish (runningOf c X F) (rw ht) h (r .activations) (r .frames) (r .within (omega (arith, few)) (omega (arith, few-held, held)))
 
     by-tag : (t : ℕ) → getD l 0 0 ≡ t → tagOk t (getD l 1 0) (getD l 2 0) (getD l 3 0) (getD l 4 0) ≡ true
-        → Holds l (stateOf l) × Within (stateOf l) × Narrow (stateOf l)
+        → Holds l (stateOf l) × WithinLimits (stateOf l) × Narrow (stateOf l)
     unfolding tagOk stateOf states headWords activationsOf framesOf filled
     by-tag zero q u = absurd (false≢true u)
     by-tag (suc zero) q u =
         let b = both (eqb (getD l 1 0) 0) _ u in
-        still (main calm) 1 0 (rw q) q (eqb-true (getD l 1 0) 0 (b .0)) (plain _ _ _ (b .1)) refl refl refl tt
+        still (main emptyEnv) 1 0 (rw q) q (eqb-true (getD l 1 0) 0 (b .0)) (plain _ _ _ (b .1)) refl refl refl tt
     by-tag (suc (suc zero)) q u =
         let b = both (eqb (getD l 1 0) 0) _ u in
         let v = both (leb 1 (getD l 2 0)) _ (b .1) in
         run-on q (eqb-true (getD l 1 0) 0 (b .0)) (leb-true 1 (getD l 2 0) (v .0)) (both (leb (getD l 2 0) callerLimit) _ (v .1) .1)
-    by-tag (suc (suc (suc zero))) q u = still (returned calm (getD l 1 0)) 3 (getD l 1 0) (rw q) q refl (plain _ _ _ u) refl refl refl tt
+    by-tag (suc (suc (suc zero))) q u = still (returned emptyEnv (getD l 1 0)) 3 (getD l 1 0) (rw q) q refl (plain _ _ _ u) refl refl refl tt
     by-tag (suc (suc (suc (suc zero)))) q u = still (State.value (getD l 1 0)) 4 (getD l 1 0) (rw q) q refl (plain _ _ _ u) refl refl refl tt
     by-tag (suc (suc (suc (suc (suc zero))))) q u =
         let b = both (eqb (getD l 1 0) 0) _ u in
@@ -171,5 +171,5 @@ module _ (l : List ℕ) (long : 16384 ≤ length l) where
     by-tag (suc (suc (suc (suc (suc (suc (suc t))))))) q u = absurd (false≢true u)
 
     -- words that pass are the image of the state that they stand for
-    pub image-sound : Holds l (stateOf l) × Within (stateOf l) × Narrow (stateOf l)
+    pub image-sound : Holds l (stateOf l) × WithinLimits (stateOf l) × Narrow (stateOf l)
     image-sound = by-tag (getD l 0 0) refl said

@@ -9,7 +9,7 @@ use lib.Seq.{drop-drop}
 use borrow.Author.Tests.{le-leb, lt-leb, lt-ltb, le-ltb}
 use Rattle.words.specs.Blocks.{allZero}
 use Rattle.words.proofs.Tests.{tail}
-use Rattle.fit_image.specs.Blocks.{valuesOk, nodesOk, operandsOk, frameOk, activationOk}
+use Rattle.fit_image.specs.BlockTests.{valuesOk, nodesOk, operandsOk, frameOk, activationOk}
 
 module _ (y z : ℕ) (s : List ℕ) where
   pub operands-many : 7 < y + z → false ≡ operandsOk y z s

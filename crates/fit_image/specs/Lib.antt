@@ -1,2 +1,2 @@
-pub mod Blocks
-pub mod Words
+pub mod BlockTests
+pub mod MemoryTest

@@ -4,12 +4,12 @@ ghost use mathlib.Core.Bool.{true};
 ghost use Prim.Native.Nat.{_*_, _≤_, _<_};
 ghost use lib.ListN.{length};
 ghost use Rattle.spec_machine.specs.Machine.{State};
-ghost use Rattle.spec_machine.specs.Fit.{Within};
+ghost use Rattle.spec_machine.specs.Fit.{WithinLimits};
 ghost use Rattle.spec_image.specs.Decode.{stateOf};
 ghost use Rattle.spec_image.specs.Memory.{Holds};
 ghost use Rattle.spec_image.specs.Narrow.{Narrow};
-ghost use Rattle.fit_image.specs.Blocks.{valueOk, valuesOk, nodesOk, controlOk, operandsOk, frameOk, activationOk};
-ghost use Rattle.fit_image.specs.Words.{tagOk, headOk, activationsOk, framesOk, imageOk};
+ghost use Rattle.fit_image.specs.BlockTests.{valueOk, valuesOk, nodesOk, controlOk, operandsOk, frameOk, activationOk};
+ghost use Rattle.fit_image.specs.MemoryTest.{tagOk, headOk, activationsOk, framesOk, imageOk};
 
 // Whether a type and a word are a value's.
 fn value_ok(tag: u32, word: u32) -> bool
@@ -213,8 +213,8 @@ fn image_ok(m: &[u32]) -> bool
 // Whether the first 16,384 words are the image of a state within the limits and narrow; it is then the state that they stand for.
 pub fn holds_image(m: &[u32]) -> bool
     requires { ⌜ 16384 ≤ length (now m) ⌝ }
-    ensures sound { λ r. ⌜ (r ≡ true → Holds (now (m .entry)) (stateOf (now (m .entry))) × Within (stateOf (now (m .entry))) × Narrow (stateOf (now (m .entry)))) ⌝ }
-    ensures complete { λ r. ⌜ ((s : State) → Within s → Narrow s → Holds (now (m .entry)) s → r ≡ true) ⌝ }
+    ensures sound { λ r. ⌜ (r ≡ true → Holds (now (m .entry)) (stateOf (now (m .entry))) × WithinLimits (stateOf (now (m .entry))) × Narrow (stateOf (now (m .entry)))) ⌝ }
+    ensures complete { λ r. ⌜ ((s : State) → WithinLimits s → Narrow s → Holds (now (m .entry)) s → r ≡ true) ⌝ }
 {
     image_ok(m)
 }

@@ -1,3 +1,3 @@
-pub mod Parts
+pub mod AcceptedParts
 pub mod Sorts
 pub mod Refs

@@ -13,14 +13,14 @@ use Rattle.records.proofs.Bools.{by, and-left, and-right}
 use Rattle.spec_language.specs.Sorts.{isExpression}
 use Rattle.spec_language.specs.Types as types
 use Rattle.check_flow.proofs.Walks.{inner}
-use Rattle.spec_machine.specs.Program.{node, ifOf, seqOf, Form, typeN, varType}
+use Rattle.spec_machine.specs.Program.{node, ifOf, seqOf, StmtForm, typeN, typeOfVar}
 use Rattle.spec_machine.specs.Fit.{isConst, isStmt, isNop}
 use Rattle.spec_machine.specs.File.{lookAt, formAt, ifForm, seqForm, seeAt, programOf}
 use Rattle.spec_machine.specs.Test.{exprIn, stmtIn}
 use Rattle.spec_machine.proofs.Levels.{by-look, by-form}
 use Rattle.spec_machine.proofs.Nodes.{look-sort, variable-type-is, type-is}
 use Rattle.fit_nodes.specs.Part.{Part}
-use Rattle.fit_nodes.proofs.Parts.{all, nodes}
+use Rattle.fit_nodes.proofs.AcceptedParts.{all, nodes}
 
 -- kinds 0, 1 and 15 are constants
 constant : (t : List ℕ) (i : ℕ) → (ltb (kindAt t i) 2 || eqb (kindAt t i) 15) ≡ isConst (lookAt t i)
@@ -31,7 +31,7 @@ constant t i =
 
 module _ {s : List ℕ} {f : ℕ} {t : List ℕ} {n : ℕ} (p : Part s f t n) where
   -- ---- variables and expressions
-  pub variable-type : {x : ℕ} → x < varsOf s f → types.varType s f t n x ≡ varType (programOf s .fun f) x
+  pub variable-type : {x : ℕ} → x < varsOf s f → types.varType s f t n x ≡ typeOfVar (programOf s .fun f) x
   unfolding programOf
   variable-type {x} l = rw (p .part, p .count) (sym (variable-type-is s (all p) f (p .known) x l))
 
@@ -76,7 +76,7 @@ module _ {s : List ℕ} {f : ℕ} {t : List ℕ} {n : ℕ} (p : Part s f t n) wh
         (λ e. e)
 
     -- a test of a node's form agrees with one of its kind
-    same-form : (low high : ℕ) (test : Form → Bool) → (i < n → (leb low (kindAt t i) && leb (kindAt t i) high) ≡ test (formAt t i)) → among low high ≡ ltb i n && test (formAt t i)
+    same-form : (low high : ℕ) (test : StmtForm → Bool) → (i < n → (leb low (kindAt t i) && leb (kindAt t i) high) ≡ test (formAt t i)) → among low high ≡ ltb i n && test (formAt t i)
     same-form low high test h = by (ltb i n) (λ e. rw e (h (ltb-true _ _ e))) (λ e. rw e)
 
     pub node-sort : among 7 14 ≡ stmtIn (programOf s) f (node i)

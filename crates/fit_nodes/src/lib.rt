@@ -8,7 +8,7 @@ ghost use lib.Dec.{leb, ltb};
 ghost use lib.ListN.{length};
 ghost use Rattle.records.specs.Fields.{varsOf, kindAt};
 ghost use Rattle.check_scopes.specs.Counts.{Decls};
-ghost use Rattle.spec_machine.specs.Program.{varType, typeN};
+ghost use Rattle.spec_machine.specs.Program.{typeOfVar, typeN};
 ghost use Rattle.spec_machine.specs.Fit.{isConst};
 ghost use Rattle.spec_machine.specs.File.{programOf};
 ghost use Rattle.spec_machine.specs.Test.{exprIn, stmtIn};
@@ -46,7 +46,7 @@ pub fn variable_type(
     x: u32,
 ) -> u8
     requires { ⌜ Part (now file) f (now part) n × (Decls (now part) n (now decls)) × (x < varsOf (now file) f) ⌝ }
-    ensures { λ r. ⌜ r ≡ varType (programOf (now (file .entry)) .fun f) x ⌝ }
+    ensures { λ r. ⌜ r ≡ typeOfVar (programOf (now (file .entry)) .fun f) x ⌝ }
 {
     check_types::var_type(file, f, part, n, decls, x)
 }

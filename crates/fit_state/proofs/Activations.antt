@@ -7,9 +7,9 @@ use lib.ListN.{length}
 use lib.Seq.{take-at, drop-at}
 use Rattle.spec_machine.specs.Values.{Value}
 use Rattle.spec_machine.specs.Program.{Program, varTypes}
-use Rattle.spec_machine.specs.Machine.{Frame, Control, Saved, saved, Ambient, running}
+use Rattle.spec_machine.specs.Machine.{Frame, Control, Saved, saved, RunEnv, running}
 use Rattle.spec_machine.specs.Fit.{held, comes, comesFrom}
-use Rattle.spec_machine.specs.Test.{known, holds, takes, given, flows, flowsFrom, callers, proper}
+use Rattle.spec_machine.specs.Test.{hasFunction, allHoldTyped, takes, controlOver, flows, flowsFrom, callers, proper}
 use Rattle.spec_image.specs.Layout.{activation}
 use Rattle.spec_image.specs.Image.{savedActivations, savedFrames}
 use Rattle.fit_frames.proofs.Walk.{caller-walk, current-walk}
@@ -27,13 +27,13 @@ module _ (P : Program) where
   unfolding savedActivations savedFrames
   callers-law f [] = refl
   callers-law f (saved g θ L ∷ A) =
-      let b = holds θ (varTypes (P .fun g)) in
+      let b = allHoldTyped θ (varTypes (P .fun g)) in
       let t = P .fun f .result in
-      rotated b (takes P g t L) (flows P g L (held θ)) (comes P g L) (callers P g A) (known P g)
+      rotated b (takes P g t L) (flows P g L (held θ)) (comes P g L) (callers P g A) (hasFunction P g)
       ∙ rw (caller-walk P g t (held θ) L, callers-law g A, take-at L (savedFrames A) (length L) refl, drop-at L (savedFrames A) (length L) refl)
 
-  pub proper-law : (c : Control) (α : Ambient) (f : ℕ) (η : List Value) (K : List Frame) (A : List Saved)
+  pub proper-law : (c : Control) (α : RunEnv) (f : ℕ) (η : List Value) (K : List Frame) (A : List Saved)
       → proper P (running c α f η K A) ≡ runningFit P c (activation f (length K) η ∷ savedActivations A) (K ++ savedFrames A)
   proper-law c α f η K A =
-      and-comm (callers P f A) (known P f && (holds η (varTypes (P .fun f)) && (given P f c K && (flowsFrom P f c K (held η) && comesFrom P f c K))))
+      and-comm (callers P f A) (hasFunction P f && (allHoldTyped η (varTypes (P .fun f)) && (controlOver P f c K && (flowsFrom P f c K (held η) && comesFrom P f c K))))
       ∙ rw (current-walk P f c (held η) K, callers-law f A, take-at K (savedFrames A) (length K) refl, drop-at K (savedFrames A) (length K) refl)

@@ -5,13 +5,13 @@ use Prim.Native.Nat.{ℕ, _<_}
 use Rattle.records.specs.Fields.{functions, countOf}
 use Rattle.records.specs.Parts.{partOf}
 use Rattle.fit_nodes.specs.Part.{Part}
-use Rattle.fit_table.specs.Tables.{Filled}
+use Rattle.fit_table.specs.Tables.{RowsFilled}
 
 module _ (file part table : List ℕ) (f n : ℕ) (p : Part file f part n) where
   -- it serves again where the function is the same
-  pub kept : (last : ℕ) → (last < functions file → Filled (partOf file last) table (countOf file last)) → last ≡ f → Filled part table n
+  pub kept : (last : ℕ) → (last < functions file → RowsFilled (partOf file last) table (countOf file last)) → last ≡ f → RowsFilled part table n
   kept last h e = rw (p .part, p .count) (rw e at (h (rw e (p .known))))
 
   -- it is that of the function
-  pub table-of : (g : ℕ) → g ≡ f → Filled part table n → Filled (partOf file g) table (countOf file g)
+  pub table-of : (g : ℕ) → g ≡ f → RowsFilled part table n → RowsFilled (partOf file g) table (countOf file g)
   table-of g e q = rw (e, ← (p .part), ← (p .count)) q

@@ -1,5 +1,5 @@
 pub mod Activations
-pub mod Words
+pub mod StateWords
 pub mod Values
 pub mod Lists
 pub mod Rests

@@ -14,18 +14,18 @@ use Rattle.spec_machine.specs.Values.{Value}
 use Rattle.spec_machine.specs.Program.{Program, varTypes}
 use Rattle.spec_machine.specs.Machine.{Frame}
 use Rattle.spec_machine.specs.Fit.{held}
-use Rattle.spec_machine.specs.Test.{known, holds}
+use Rattle.spec_machine.specs.Test.{hasFunction, allHoldTyped}
 use Rattle.spec_image.specs.Layout.{Activation, activation}
 use Rattle.spec_image.specs.Decode.{frameOf, activationOf, framesHeld, activationsTo, heldIn}
 use Rattle.state_words.specs.Meaning.{activationAt}
 use Rattle.state_words.proofs.Totals.{activation-word, frames-of, total-last}
 use Rattle.varset.specs.Sets.{has}
 use Rattle.fit_frames.specs.declared.Next.{Next}
-use Rattle.fit_frames.specs.Travel.{suits, onward, ends}
-use Rattle.fit_frames.specs.Meaning.{downIs}
+use Rattle.fit_frames.specs.Incoming.{frameFits, handsOn, ends}
+use Rattle.fit_frames.specs.Meaning.{incomingIs}
 use Rattle.fit_state.specs.declared.Variables.{Variables}
-use Rattle.fit_state.specs.Activations.{Over, at, calls, overOk, handed, framesFit, activationFit, functionOf, under, callersFit}
-use Rattle.fit_state.specs.Meaning.{Hands, Holding, variablesIn, activationIn, framesTo}
+use Rattle.fit_state.specs.Activations.{Over, at, calls, overOk, handed, framesFit, activationFit, functionOf, framesUnder, callersFit}
+use Rattle.fit_state.specs.Meaning.{OverAnswer, VariablesAnswer, variablesIn, activationIn, framesTo}
 
 -- ---- the words of an activation
 
@@ -59,22 +59,22 @@ module _ (m : List ℕ) (high k : ℕ) (h : k ≤ high) where
 
 module _ (P : Program) (o : Over) (m : List ℕ) (a high f k v : ℕ)
     (ef : f ≡ getD m (activationAt a + 0) 0) (ek : k ≡ getD m (activationAt a + 1) 0) (ev : v ≡ getD m (activationAt a + 2) 0) where
-  pub activation-unknown : known P f ≡ false → activationFit P o (activationIn m a) (framesTo m high) ≡ false
+  pub activation-unknown : hasFunction P f ≡ false → activationFit P o (activationIn m a) (framesTo m high) ≡ false
   activation-unknown e = rw (activation-in m a f k v ef ek ev, e)
 
-  pub activation-wrong : holds (variablesIn m a v) (varTypes (P .fun f)) ≡ false → activationFit P o (activationIn m a) (framesTo m high) ≡ false
-  activation-wrong e = rw (activation-in m a f k v ef ek ev, e) (and-false (known P f))
+  pub activation-wrong : allHoldTyped (variablesIn m a v) (varTypes (P .fun f)) ≡ false → activationFit P o (activationIn m a) (framesTo m high) ≡ false
+  activation-wrong e = rw (activation-in m a f k v ef ek ev, e) (and-false (hasFunction P f))
 
-  pub activation-whole : known P f ≡ true → k ≤ high
+  pub activation-whole : hasFunction P f ≡ true → k ≤ high
       → activationFit P o (activationIn m a) (framesTo m high)
-      ≡ (holds (variablesIn m a v) (varTypes (P .fun f)) && framesFit P f (held (variablesIn m a v)) o (entries 20 frameOf m (4480 + (high - k) * 20) k))
+      ≡ (allHoldTyped (variablesIn m a v) (varTypes (P .fun f)) && framesFit P f (held (variablesIn m a v)) o (entries 20 frameOf m (4480 + (high - k) * 20) k))
   activation-whole e h = rw (activation-in m a f k v ef ek ev, e, last m high k h)
 
 -- ---- the callers
 
 -- the frames under an activation's
 pub under-is : (m : List ℕ) (a high : ℕ) → 0 < a → (k : ℕ) → k ≡ getD m (activationAt (a - 1) + 1) 0 → k ≤ high
-    → under (activationIn m (a - 1)) (framesTo m high) ≡ framesTo m (high - k)
+    → framesUnder (activationIn m (a - 1)) (framesTo m high) ≡ framesTo m (high - k)
 under-is m a high here k e h =
     rw (activation-in m (a - 1) (getD m (activationAt (a - 1) + 0) 0) k (getD m (activationAt (a - 1) + 2) 0) refl e refl) (rest m high k h)
 
@@ -83,7 +83,7 @@ module _ (P : Program) (m : List ℕ) (f a high : ℕ) (here : 0 < a) where
   x = activationIn m (a - 1)
 
   opened : callersFit P f (activationsTo m a) (framesTo m high)
-      ≡ (activationFit P (calls (P .fun f .result)) x (framesTo m high) && callersFit P (functionOf x) (activationsTo m (a - 1)) (under x (framesTo m high)))
+      ≡ (activationFit P (calls (P .fun f .result)) x (framesTo m high) && callersFit P (functionOf x) (activationsTo m (a - 1)) (framesUnder x (framesTo m high)))
   opened = let z : a ≡ suc (a - 1) = omega arith in ap (λ (n : ℕ). callersFit P f (activationsTo m n) (framesTo m high)) z
 
   pub callers-less : activationFit P (calls (P .fun f .result)) x (framesTo m high) ≡ false → callersFit P f (activationsTo m a) (framesTo m high) ≡ false
@@ -99,10 +99,10 @@ callers-end P m f a F e = rw e
 
 -- an activation that is fit is of a function of the program
 pub fit-known : (P : Program) (o : Over) (m : List ℕ) (a : ℕ) (F : List Frame) (f : ℕ) → f ≡ getD m (activationAt a + 0) 0
-    → activationFit P o (activationIn m a) F ≡ true → known P f ≡ true
-fit-known P o m a F f e h = go (known P f) refl
+    → activationFit P o (activationIn m a) F ≡ true → hasFunction P f ≡ true
+fit-known P o m a F f e h = go (hasFunction P f) refl
   where
-    go : (b : Bool) → known P f ≡ b → known P f ≡ true
+    go : (b : Bool) → hasFunction P f ≡ b → hasFunction P f ≡ true
     go true q = q
     go false q =
         let z : activationFit P o (activationIn m a) F ≡ false = rw (activation-in m a f (getD m (activationAt a + 1) 0) (getD m (activationAt a + 2) 0) e refl refl, q) in
@@ -110,23 +110,23 @@ fit-known P o m a F f e h = go (known P f) refl
 
 -- ---- an activation, test by test
 
-module _ {P : Program} {f : ℕ} {η : List Value} {r : Variables} (v : Holding P f η r) (o : Over) (K : List Frame) where
+module _ {P : Program} {f : ℕ} {η : List Value} {r : Variables} (v : VariablesAnswer P f η r) (o : Over) (K : List Frame) where
   abbrev whole : Bool
-  whole = holds η (varTypes (P .fun f)) && framesFit P f (held η) o K
+  whole = allHoldTyped η (varTypes (P .fun f)) && framesFit P f (held η) o K
 
   pub in-variables : r .ok ≡ false → whole ≡ false
   in-variables e = rw (sym (v .ok) ∙ e)
 
-  module _ (good : r .ok ≡ true) {h : Next} (d : Hands P f (has (r .set .0)) o h) where
+  module _ (good : r .ok ≡ true) {h : Next} (d : OverAnswer P f (has (r .set .0)) o h) where
     over-is : overOk P f (held η) o ≡ h .ok
     over-is = rw (v .set good) at (sym (d .ok))
 
     pub in-over : h .ok ≡ false → whole ≡ false
     in-over e = rw (sym (v .ok) ∙ good, over-is ∙ e)
 
-    pub in-frames : h .ok ≡ true → whole ≡ chain (suits P f) (onward P f) ends (downIs (h .down)) K
+    pub in-frames : h .ok ≡ true → whole ≡ chain (frameFits P f) (handsOn P f) ends (incomingIs (h .down)) K
     in-frames e =
-        let q : handed P f (held η) o ≡ downIs (h .down) = rw (v .set good) at (sym (d .on e)) in
+        let q : handed P f (held η) o ≡ incomingIs (h .down) = rw (v .set good) at (sym (d .on e)) in
         rw (sym (v .ok) ∙ good, over-is ∙ e, q)
 
 -- ---- how many frames there are

@@ -9,42 +9,42 @@ use borrow.Author.Tests.{le-leb}
 use Rattle.words.specs.Segments.{total}
 use Rattle.spec_machine.specs.Values.{Value}
 use Rattle.spec_machine.specs.Program.{Program}
-use Rattle.spec_machine.specs.Machine.{Exception, abort, Frame, Control, Saved, calm, State, exception, main, returned, running}
-use Rattle.spec_machine.specs.Fit.{Within, callerLimit, frameLimit, savedFrames}
-use Rattle.spec_machine.specs.Run.{within}
+use Rattle.spec_machine.specs.Machine.{Exception, abort, Frame, Control, Saved, emptyEnv, State, exception, main, returned, running}
+use Rattle.spec_machine.specs.Fit.{WithinLimits, callerLimit, frameLimit, savedFrameCount}
+use Rattle.spec_machine.specs.Run.{withinLimits}
 use Rattle.spec_machine.specs.Test.{inWords, proper, fit}
 use Rattle.spec_image.specs.Image.{headWords, activationsOf, framesOf, image}
 use Rattle.spec_image.specs.Decode.{controlOf, framesHeld, activationsTo, heldIn, activationsIn, framesIn}
 use Rattle.spec_image.specs.Narrow.{Narrow}
-use Rattle.spec_image.proofs.Parts.{control-back}
+use Rattle.spec_image.proofs.ValueWords.{control-back}
 use Rattle.spec_image.proofs.Images.{few-activations, few-frames, frames-held, head-word, count-in, activations-in, frames-in, decode-image}
-use Rattle.fit_state.specs.Held.{Held}
+use Rattle.fit_state.specs.HoldsState.{HoldsState}
 use Rattle.state_words.specs.Meaning.{activationAt}
-use Rattle.fit_state.specs.Activations.{at, activationFit, functionOf, under, callersFit, runningFit}
+use Rattle.fit_state.specs.Activations.{at, activationFit, functionOf, framesUnder, callersFit, runningFit}
 use Rattle.fit_state.specs.Meaning.{activationIn, framesTo}
 use Rattle.fit_state.proofs.Activations.{proper-law}
 use Rattle.fit_state.proofs.Lists.{function-of, under-is}
-use Rattle.fit_state.proofs.Words.{Small, small-words}
+use Rattle.fit_state.proofs.StateWords.{Small, small-words}
 
-within-true : (s : State) → Within s → within s ≡ true
+within-true : (s : State) → WithinLimits s → withinLimits s ≡ true
 within-true (State.value c) w = refl
 within-true (exception x) w = refl
 within-true (main α) w = refl
 within-true (returned α c) w = refl
-within-true (running c α f η K A) w = rw (le-leb (1 + length A) callerLimit (w .0), le-leb (length K + savedFrames A) frameLimit (w .1))
+within-true (running c α f η K A) w = rw (le-leb (1 + length A) callerLimit (w .0), le-leb (length K + savedFrameCount A) frameLimit (w .1))
 
 -- what is left to test
-fit-proper : (P : Program) (s : State) (R : List ℕ) → Within s → Narrow s → Small (image s ++ R) → fit P s ≡ proper P s
+fit-proper : (P : Program) (s : State) (R : List ℕ) → WithinLimits s → Narrow s → Small (image s ++ R) → fit P s ≡ proper P s
 fit-proper P s R w n h =
     let e : inWords s ≡ true = rw (decode-image s w n R) at (small-words (image s ++ R) h) in
     rw (e, within-true s w)
 
-module _ (P : Program) (m : List ℕ) (s : State) (R : List ℕ) (e : m ≡ image s ++ R) (w : Within s) (n : Narrow s) (h : Small m) where
+module _ (P : Program) (m : List ℕ) (s : State) (R : List ℕ) (e : m ≡ image s ++ R) (w : WithinLimits s) (n : Narrow s) (h : Small m) where
   fit-left : fit P s ≡ proper P s
   fit-left = fit-proper P s R w n (rw e at h)
 
 -- a state at rest
-pub fit-rest : (P : Program) (m : List ℕ) (s : State) (R : List ℕ) → m ≡ image s ++ R → Within s → Narrow s → Small m → (getD m 0 0 ≡ 2 → ⊥) → fit P s ≡ true
+pub fit-rest : (P : Program) (m : List ℕ) (s : State) (R : List ℕ) → m ≡ image s ++ R → WithinLimits s → Narrow s → Small m → (getD m 0 0 ≡ 2 → ⊥) → fit P s ≡ true
 unfolding headWords
 fit-rest P m (State.value c) R e w n h q = fit-left P m (State.value c) R e w n h
 fit-rest P m (exception x) R e w n h q = fit-left P m (exception x) R e w n h
@@ -54,15 +54,15 @@ fit-rest P m (running c α f η K A) R e w n h q = absurd (q (rw e (head-word (r
 
 -- a running state
 running-law : (P : Program) (c : Control) (f : ℕ) (η : List Value) (K : List Frame) (A : List Saved) (R : List ℕ)
-    → let s = running c calm f η K A in Within s → Narrow s
+    → let s = running c emptyEnv f η K A in WithinLimits s → Narrow s
     → let m = image s ++ R in proper P s ≡ runningFit P (controlOf (getD m 3 0) (getD m 4 0)) (activationsIn m) (framesIn m)
 unfolding headWords activationsOf framesOf
 running-law P c f η K A R w n =
-    let s = running c calm f η K A in
-    proper-law P c calm f η K A
+    let s = running c emptyEnv f η K A in
+    proper-law P c emptyEnv f η K A
     ∙ rw (activations-in s R n, frames-in s R n w, head-word s R 3 (omega arith), head-word s R 4 (omega arith), control-back c)
 
-pub fit-running : (P : Program) (m : List ℕ) (s : State) (R : List ℕ) → m ≡ image s ++ R → Within s → Narrow s → Small m → getD m 0 0 ≡ 2
+pub fit-running : (P : Program) (m : List ℕ) (s : State) (R : List ℕ) → m ≡ image s ++ R → WithinLimits s → Narrow s → Small m → getD m 0 0 ≡ 2
     → fit P s ≡ runningFit P (controlOf (getD m 3 0) (getD m 4 0)) (activationsIn m) (framesIn m)
 unfolding headWords
 fit-running P m (State.value c) R e w n h q =
@@ -80,8 +80,8 @@ fit-running P m (main α) R e w n h q =
 fit-running P m (returned α c) R e w n h q =
     let z : getD (image (returned α c) ++ R) 0 0 ≡ 3 = head-word (returned α c) R 0 (omega arith) in
     absurd (omega (arith, ap (λ (l : List ℕ). getD l 0 0) e))
-fit-running P m (running c calm f η K A) R e w n h q =
-    fit-left P m (running c calm f η K A) R e w n h ∙ running-law P c f η K A R w n ∙ rw (← e)
+fit-running P m (running c emptyEnv f η K A) R e w n h q =
+    fit-left P m (running c emptyEnv f η K A) R e w n h ∙ running-law P c f η K A R w n ∙ rw (← e)
 
 running-some : (s : State) → getD (headWords s) 0 0 ≡ 2 → 0 < getD (headWords s) 2 0
 unfolding headWords
@@ -93,7 +93,7 @@ running-some (returned α c) q = absurd (omega arith)
 running-some (running c α f η K A) q = omega arith
 
 -- what the memory holds lies in its rooms
-module _ (m : List ℕ) (h : Held m) where
+module _ (m : List ℕ) (h : HoldsState m) where
   pub few : getD m 2 0 ≤ 32
   few =
       let z : getD m 2 0 ≡ length (activationsOf (h .state))
@@ -116,12 +116,12 @@ module _ (m : List ℕ) (h : Held m) where
 
 -- ---- the way down from the current activation
 
-module _ (P : Program) (m : List ℕ) (s : State) (R : List ℕ) (e : m ≡ image s ++ R) (w : Within s) (n : Narrow s) (h : Small m) (tag : getD m 0 0 ≡ 2)
+module _ (P : Program) (m : List ℕ) (s : State) (R : List ℕ) (e : m ≡ image s ++ R) (w : WithinLimits s) (n : Narrow s) (h : Small m) (tag : getD m 0 0 ≡ 2)
     (c : Control) (high : ℕ) (ec : c ≡ controlOf (getD m 3 0) (getD m 4 0)) (eh : high ≡ heldIn m (getD m 2 0)) (here : 0 < getD m 2 0) where
   abbrev a : ℕ
   a = getD m 2 0 - 1
 
-  opened : fit P s ≡ (activationFit P (at c) (activationIn m a) (framesTo m high) && callersFit P (functionOf (activationIn m a)) (activationsTo m a) (under (activationIn m a) (framesTo m high)))
+  opened : fit P s ≡ (activationFit P (at c) (activationIn m a) (framesTo m high) && callersFit P (functionOf (activationIn m a)) (activationsTo m a) (framesUnder (activationIn m a) (framesTo m high)))
   unfolding activationsIn framesIn
   opened =
       let z : getD m 2 0 ≡ suc a = omega arith in

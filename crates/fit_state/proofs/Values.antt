@@ -18,28 +18,28 @@ use Rattle.spec_language.specs.Check.{accepted, checkOf}
 use Rattle.spec_language.specs.Types as types
 use Rattle.spec_language.proofs.Accept as accept
 use Rattle.spec_machine.specs.Values.{Ty, Value, nothing, int, truth, typeV}
-use Rattle.spec_machine.specs.Program.{varTypes, varType}
+use Rattle.spec_machine.specs.Program.{varTypes, typeOfVar}
 use Rattle.spec_machine.specs.Fit.{isSome, held}
 use Rattle.spec_machine.specs.File.{typesFrom, programOf}
-use Rattle.spec_machine.specs.Test.{hold, holds}
+use Rattle.spec_machine.specs.Test.{holdsTyped, allHoldTyped}
 use Rattle.spec_machine.proofs.Operands.{types-length}
 use Rattle.spec_machine.proofs.Nodes.{variables, variable-type-is}
 use Rattle.spec_image.specs.Decode.{valueOf, valuesOf}
 use Rattle.state_words.specs.Meaning.{activationAt}
-use Rattle.spec_image.proofs.Parts.{length-valuesOf}
+use Rattle.spec_image.proofs.ValueWords.{length-valuesOf}
 use Rattle.fit_state.specs.Meaning.{variablesIn}
 
 -- ---- one value by the first of its words
 
-pub nothing-holds : (tag w : ℕ) (t : Ty) → tag ≡ 0 → hold (valueOf tag w) t ≡ true
+pub nothing-holds : (tag w : ℕ) (t : Ty) → tag ≡ 0 → holdsTyped (valueOf tag w) t ≡ true
 unfolding valueOf
 nothing-holds tag w t e = rw e
 
-pub some-holds : (tag w : ℕ) (t : Ty) → (tag ≡ 0 → ⊥) → hold (valueOf tag w) t ≡ eqb (typeV (valueOf tag w)) t
+pub some-holds : (tag w : ℕ) (t : Ty) → (tag ≡ 0 → ⊥) → holdsTyped (valueOf tag w) t ≡ eqb (typeV (valueOf tag w)) t
 unfolding valueOf
 some-holds tag w t n = rw (ne-eqb tag 0 n) (go (eqb tag 1))
   where
-    go : (b : Bool) → hold (pick b (int w) (truth (eqb w 1))) t ≡ eqb (typeV (pick b (int w) (truth (eqb w 1)))) t
+    go : (b : Bool) → holdsTyped (pick b (int w) (truth (eqb w 1))) t ≡ eqb (typeV (pick b (int w) (truth (eqb w 1)))) t
     go true = refl
     go false = refl
 
@@ -91,13 +91,13 @@ module _ (m : List ℕ) (a x : ℕ) (room : x < 64) where
 module _ (type : ℕ → Ty) (m : List ℕ) (a v x : ℕ) where
   -- from variable x on
   abbrev pub holdsFrom : ℕ → Bool
-  holdsFrom y = holds (valuesOf (v - y) (drop (2 * y) (drop 8 (blockAt 136 m 128 a)))) (typesFrom type (v - y) y)
+  holdsFrom y = allHoldTyped (valuesOf (v - y) (drop (2 * y) (drop 8 (blockAt 136 m 128 a)))) (typesFrom type (v - y) y)
 
   module _ (here : x < v) (room : v ≤ 64) (tag : ℕ) (t : Ty) (e : tag ≡ getD m (activationAt a + (8 + x * 2)) 0) (q : t ≡ type x) where
     abbrev pub second : ℕ
     second = getD (drop (2 * x) (drop 8 (blockAt 136 m 128 a))) 1 0
 
-    opened : holdsFrom x ≡ (hold (valueOf tag second) t && holdsFrom (x + 1))
+    opened : holdsFrom x ≡ (holdsTyped (valueOf tag second) t && holdsFrom (x + 1))
     unfolding valuesOf typesFrom
     opened =
         let r : x < 64 = omega arith in
@@ -105,21 +105,21 @@ module _ (type : ℕ → Ty) (m : List ℕ) (a v x : ℕ) where
         let o : suc x ≡ x + 1 = omega arith in
         rw (z, variable-word m a x r, words-next m a x r, e, q, o)
 
-    pub holds-more : hold (valueOf tag second) t ≡ true → holdsFrom x ≡ holdsFrom (x + 1)
+    pub holds-more : holdsTyped (valueOf tag second) t ≡ true → holdsFrom x ≡ holdsFrom (x + 1)
     holds-more h = opened ∙ rw h
 
-    pub holds-less : hold (valueOf tag second) t ≡ false → holdsFrom x ≡ false
+    pub holds-less : holdsTyped (valueOf tag second) t ≡ false → holdsFrom x ≡ false
     holds-less h = opened ∙ rw h
 
   pub holds-end : v ≤ x → holdsFrom x ≡ true
   unfolding valuesOf typesFrom
   holds-end h = let z : v - x ≡ 0 = omega arith in rw z
 
-holds-length : (η : List Value) (ts : List Ty) → (length η ≡ length ts → ⊥) → holds η ts ≡ false
+holds-length : (η : List Value) (ts : List Ty) → (length η ≡ length ts → ⊥) → allHoldTyped η ts ≡ false
 holds-length [] [] n = absurd (n refl)
 holds-length [] (t ∷ ts) n = refl
 holds-length (v ∷ η) [] n = refl
-holds-length (v ∷ η) (t ∷ ts) n = rw (holds-length η ts (λ e. n (ap suc e))) (and-false (hold v t))
+holds-length (v ∷ η) (t ∷ ts) n = rw (holds-length η ts (λ e. n (ap suc e))) (and-false (holdsTyped v t))
 
 module _ (s : List ℕ) (e : checkOf s ≡ accepted) (f : ℕ) (l : f < functions s) where
   -- the types of the variables of function f
@@ -127,21 +127,21 @@ module _ (s : List ℕ) (e : checkOf s ≡ accepted) (f : ℕ) (l : f < function
   typeIn = types.varType s f (partOf s f) (countOf s f)
 
   pub holds-all : (m : List ℕ) (a v : ℕ) → v ≡ varsOf s f
-      → holds (variablesIn m a v) (varTypes (programOf s .fun f)) ≡ holdsFrom typeIn m a v 0 0
+      → allHoldTyped (variablesIn m a v) (varTypes (programOf s .fun f)) ≡ holdsFrom typeIn m a v 0 0
   unfolding programOf
   holds-all m a v q =
       let z : v - 0 ≡ v = omega arith in
       rw (variables s (accept.accepted-is s e) f l, z, q)
 
   -- another number of variables than the function has
-  pub holds-count : (m : List ℕ) (a v : ℕ) → (v ≡ varsOf s f → ⊥) → holds (variablesIn m a v) (varTypes (programOf s .fun f)) ≡ false
+  pub holds-count : (m : List ℕ) (a v : ℕ) → (v ≡ varsOf s f → ⊥) → allHoldTyped (variablesIn m a v) (varTypes (programOf s .fun f)) ≡ false
   unfolding programOf
   holds-count m a v n =
       rw (variables s (accept.accepted-is s e) f l)
       (holds-length (variablesIn m a v) (typesFrom typeIn (varsOf s f) 0)
       (λ q. n (omega (arith, q, length-valuesOf v (drop 8 (blockAt 136 m 128 a)), types-length typeIn (varsOf s f) 0))))
 
-  pub type-in : (x : ℕ) → x < varsOf s f → varType (programOf s .fun f) x ≡ typeIn x
+  pub type-in : (x : ℕ) → x < varsOf s f → typeOfVar (programOf s .fun f) x ≡ typeIn x
   unfolding programOf
   type-in x h = variable-type-is s (accept.accepted-is s e) f l x h
 

@@ -10,9 +10,9 @@ use Rattle.spec_machine.specs.Values.{Ty}
 use Rattle.spec_machine.specs.Program.{Program, varTypes}
 use Rattle.spec_machine.specs.Machine.{Frame, Control}
 use Rattle.spec_machine.specs.Fit.{held}
-use Rattle.spec_machine.specs.Test.{known, holds}
+use Rattle.spec_machine.specs.Test.{hasFunction, allHoldTyped}
 use Rattle.spec_image.specs.Layout.{Activation, activation}
-use Rattle.fit_frames.specs.Travel.{Travel, giving, suits, onward, ends, startOk, start}
+use Rattle.fit_frames.specs.Incoming.{Incoming, giving, frameFits, handsOn, ends, startOk, start}
 
 -- what stands over an activation's frames: the control, or a callee that gives a result of a type
 pub data Over : Type 0 where
@@ -24,32 +24,32 @@ abbrev pub overOk : Program → ℕ → Set → Over → Bool
 overOk P f d (at c) = startOk P f d c
 overOk P f d (calls t) = true
 
-abbrev pub handed : Program → ℕ → Set → Over → Travel
+abbrev pub handed : Program → ℕ → Set → Over → Incoming
 handed P f d (at c) = start P f d c
 handed P f d (calls t) = giving t d
 
 -- the frames of an activation of f whose variables with values are d
 abbrev pub framesFit : Program → ℕ → Set → Over → List Frame → Bool
-framesFit P f d o K = overOk P f d o && chain (suits P f) (onward P f) ends (handed P f d o) K
+framesFit P f d o K = overOk P f d o && chain (frameFits P f) (handsOn P f) ends (handed P f d o) K
 
 -- an activation, its frames first among F
 abbrev pub activationFit : Program → Over → Activation → List Frame → Bool
-activationFit P o (activation f k η) F = known P f && (holds η (varTypes (P .fun f)) && framesFit P f (held η) o (take k F))
+activationFit P o (activation f k η) F = hasFunction P f && (allHoldTyped η (varTypes (P .fun f)) && framesFit P f (held η) o (take k F))
 
 -- the function of an activation
 abbrev pub functionOf : Activation → ℕ
 functionOf (activation f k η) = f
 
 -- the frames under it
-abbrev pub under : Activation → List Frame → List Frame
-under (activation f k η) F = drop k F
+abbrev pub framesUnder : Activation → List Frame → List Frame
+framesUnder (activation f k η) F = drop k F
 
 -- the callers of function f, the last first; the outermost is main
 abbrev pub callersFit : Program → ℕ → List Activation → List Frame → Bool
 callersFit P f [] F = eqb f 0
-callersFit P f (x ∷ X) F = activationFit P (calls (P .fun f .result)) x F && callersFit P (functionOf x) X (under x F)
+callersFit P f (x ∷ X) F = activationFit P (calls (P .fun f .result)) x F && callersFit P (functionOf x) X (framesUnder x F)
 
 -- the activations under a control
 abbrev pub runningFit : Program → Control → List Activation → List Frame → Bool
 runningFit P c [] F = true
-runningFit P c (x ∷ X) F = activationFit P (at c) x F && callersFit P (functionOf x) X (under x F)
+runningFit P c (x ∷ X) F = activationFit P (at c) x F && callersFit P (functionOf x) X (framesUnder x F)

@@ -1,3 +1,3 @@
-pub mod Held
+pub mod HoldsState
 pub mod Activations
 pub mod Meaning

@@ -10,12 +10,12 @@ use Rattle.spec_machine.specs.Values.{Value}
 use Rattle.spec_machine.specs.Program.{Program, varTypes}
 use Rattle.spec_machine.specs.Machine.{Frame}
 use Rattle.spec_machine.specs.Fit.{held}
-use Rattle.spec_machine.specs.Test.{holds}
+use Rattle.spec_machine.specs.Test.{allHoldTyped}
 use Rattle.spec_image.specs.Layout.{Activation}
 use Rattle.spec_image.specs.Decode.{valuesOf, frameOf, activationOf}
 use Rattle.state_words.specs.Meaning.{controlIs}
 use Rattle.fit_frames.specs.declared.Next.{Next}
-use Rattle.fit_frames.specs.Meaning.{downIs}
+use Rattle.fit_frames.specs.Meaning.{incomingIs}
 use Rattle.fit_state.specs.declared.Over as code
 use Rattle.fit_state.specs.declared.Over.the-variants.{Running, Calling}
 use Rattle.fit_state.specs.declared.Variables.{Variables}
@@ -27,17 +27,17 @@ overIs (Running c) = at (controlIs c)
 overIs (Calling t) = calls t
 
 -- the answer to what stands over the frames
-pub record Hands (P : Program) (f : ℕ) (d : Set) (o : Over) (r : Next) : Type 0 where
+pub record OverAnswer (P : Program) (f : ℕ) (d : Set) (o : Over) (r : Next) : Type 0 where
   pub ok : r .ok ≡ overOk P f d o
-  pub on : r .ok ≡ true → downIs (r .down) ≡ handed P f d o
+  pub on : r .ok ≡ true → incomingIs (r .down) ≡ handed P f d o
 
 -- the first v variables of the activation with a activations under it
 abbrev pub variablesIn : List ℕ → ℕ → ℕ → List Value
 variablesIn m a v = valuesOf v (drop 8 (blockAt 136 m 128 a))
 
 -- the answer to its variables
-pub record Holding (P : Program) (f : ℕ) (η : List Value) (r : Variables) : Type 0 where
-  pub ok : r .ok ≡ holds η (varTypes (P .fun f))
+pub record VariablesAnswer (P : Program) (f : ℕ) (η : List Value) (r : Variables) : Type 0 where
+  pub ok : r .ok ≡ allHoldTyped η (varTypes (P .fun f))
   pub set : r .ok ≡ true → has (r .set .0) ≡ held η
 
 -- the activation with a activations under it

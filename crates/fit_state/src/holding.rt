@@ -12,12 +12,12 @@ ghost use Rattle.varset.specs.Lowest.{pick};
 ghost use Rattle.varset.specs.Sets.{has, with};
 ghost use Rattle.records.specs.Fields.{varsOf};
 ghost use Rattle.check_scopes.specs.Counts.{Decls};
-ghost use Rattle.spec_machine.specs.Program.{varType};
+ghost use Rattle.spec_machine.specs.Program.{typeOfVar};
 ghost use Rattle.spec_machine.specs.File.{programOf};
-ghost use Rattle.spec_machine.specs.Test.{hold};
+ghost use Rattle.spec_machine.specs.Test.{holdsTyped};
 ghost use Rattle.spec_image.specs.Decode.{valueOf};
 ghost use Rattle.fit_nodes.specs.Part.{Part};
-ghost use Rattle.fit_state.specs.Meaning.{variablesIn, Holding};
+ghost use Rattle.fit_state.specs.Meaning.{variablesIn, VariablesAnswer};
 
 // Whether a value, by the first of its words, is one that variable x holds.
 fn variable_holds(
@@ -30,7 +30,7 @@ fn variable_holds(
     x: u32,
 ) -> bool
     requires { ⌜ Part (now file) f (now part) n × (Decls (now part) n (now decls)) × (x < varsOf (now file) f) ⌝ }
-    ensures { λ r. ⌜ ((w : ℕ) → r ≡ hold (valueOf tag w) (varType (programOf (now (file .entry)) .fun f) x)) ⌝ }
+    ensures { λ r. ⌜ ((w : ℕ) → r ≡ holdsTyped (valueOf tag w) (typeOfVar (programOf (now (file .entry)) .fun f) x)) ⌝ }
 {
     if tag == 0 {
         return true;
@@ -62,7 +62,7 @@ pub fn variables_hold(
 ) -> Variables
     requires part { ⌜ Part (now file) f (now part) n × Decls (now part) n (now decls) ⌝ }
     requires room { ⌜ (16384 ≤ length (now m)) × (a < 32) × (v ≡ varsOf (now file) f) × (v ≤ 64) ⌝ }
-    ensures { λ r. ⌜ Holding (programOf (now (file .entry))) f (variablesIn (now (m .entry)) a v) r ⌝ }
+    ensures { λ r. ⌜ VariablesAnswer (programOf (now (file .entry))) f (variablesIn (now (m .entry)) a v) r ⌝ }
 {
     let mut set = VarSet::empty();
     let mut x = 0u32;

@@ -30,19 +30,19 @@ ghost use Rattle.spec_language.specs.Check.{accepted, checkOf};
 ghost use Rattle.check_scopes.specs.Counts.{Decls};
 ghost use Rattle.spec_machine.specs.Program.{varTypes};
 ghost use Rattle.spec_machine.specs.Machine.{State};
-ghost use Rattle.spec_machine.specs.Fit.{held, Within};
+ghost use Rattle.spec_machine.specs.Fit.{held, WithinLimits};
 ghost use Rattle.spec_machine.specs.File.{programOf};
-ghost use Rattle.spec_machine.specs.Test.{holds, fit};
+ghost use Rattle.spec_machine.specs.Test.{allHoldTyped, fit};
 ghost use Rattle.spec_image.specs.Image.{image};
 ghost use Rattle.spec_image.specs.Decode.{frameOf, framesHeld, activationsTo, heldIn};
 ghost use Rattle.spec_image.specs.Narrow.{Narrow};
 ghost use Rattle.state_words.specs.Meaning.{activationAt};
-ghost use Rattle.fit_table.specs.Tables.{Filled, Tabled};
+ghost use Rattle.fit_table.specs.Tables.{RowsFilled, TableSays};
 ghost use Rattle.fit_nodes.specs.Part.{Part};
 ghost use Rattle.records.specs.Starts.{Starts};
-ghost use Rattle.fit_state.specs.Held.{Held};
+ghost use Rattle.fit_state.specs.HoldsState.{HoldsState};
 ghost use Rattle.fit_state.specs.Activations.{framesFit, activationFit, callersFit};
-ghost use Rattle.fit_state.specs.Meaning.{overIs, Hands, variablesIn, activationIn, framesTo};
+ghost use Rattle.fit_state.specs.Meaning.{overIs, OverAnswer, variablesIn, activationIn, framesTo};
 
 // What stands over an activation's frames: the control, or a callee that gives a result of a type.
 enum Over {
@@ -67,8 +67,8 @@ fn over_frames(
     set: VarSet,
     over: Over,
 ) -> Next
-    requires { ⌜ Part (now file) f (now part) n × Decls (now part) n (now decls) × Tabled (now part) n (now table) ⌝ }
-    ensures { λ r. ⌜ Hands (programOf (now (file .entry))) f (has (set .0)) (overIs over) r ⌝ }
+    requires { ⌜ Part (now file) f (now part) n × Decls (now part) n (now decls) × TableSays (now part) n (now table) ⌝ }
+    ensures { λ r. ⌜ OverAnswer (programOf (now (file .entry))) f (has (set .0)) (overIs over) r ⌝ }
 {
     match over {
         Over::Running(c) => begin(file, f, part, n, decls, table, set, c),
@@ -93,9 +93,9 @@ fn activation_in(
     k: usize,
     over: Over,
 ) -> bool
-    requires part { ⌜ Part (now file) f (now part) n × Tabled (now part) n (now table) ⌝ }
+    requires part { ⌜ Part (now file) f (now part) n × TableSays (now part) n (now table) ⌝ }
     requires room { ⌜ (16384 ≤ length (now m)) × (a < 32) × (v ≡ varsOf (now file) f) × (v ≤ 64) × (low + k ≤ 512) ⌝ }
-    ensures { λ r. ⌜ r ≡ (holds (variablesIn (now (m .entry)) a v) (varTypes (programOf (now (file .entry)) .fun f)) && framesFit (programOf (now (file .entry))) f (held (variablesIn (now (m .entry)) a v)) (overIs over) (entries 20 frameOf (now (m .entry)) (4480 + low * 20) k)) ⌝ }
+    ensures { λ r. ⌜ r ≡ (allHoldTyped (variablesIn (now (m .entry)) a v) (varTypes (programOf (now (file .entry)) .fun f)) && framesFit (programOf (now (file .entry))) f (held (variablesIn (now (m .entry)) a v)) (overIs over) (entries 20 frameOf (now (m .entry)) (4480 + low * 20) k)) ⌝ }
 {
     let decls = decls_of(file, f, part, n);
     let vars = holding::variables_hold(file, f, part, n, &decls, m, a, v);
@@ -126,10 +126,10 @@ fn activation_with(
     k: usize,
     over: Over,
 ) -> bool
-    requires part { ⌜ Part (now file) f (now part) n × (5 * n ≤ length (now table)) × (last ≡ f → Filled (now part) (now table) n) ⌝ }
+    requires part { ⌜ Part (now file) f (now part) n × (5 * n ≤ length (now table)) × (last ≡ f → RowsFilled (now part) (now table) n) ⌝ }
     requires room { ⌜ (16384 ≤ length (now m)) × (a < 32) × (v ≡ varsOf (now file) f) × (v ≤ 64) × (low + k ≤ 512) ⌝ }
-    ensures { λ r. ⌜ r ≡ (holds (variablesIn (now (m .entry)) a v) (varTypes (programOf (now (file .entry)) .fun f)) && framesFit (programOf (now (file .entry))) f (held (variablesIn (now (m .entry)) a v)) (overIs over) (entries 20 frameOf (now (m .entry)) (4480 + low * 20) k)) ⌝ }
-    ensures filled { λ _. ⌜ Filled (now (part .entry)) (now (table .exit)) n ⌝ }
+    ensures { λ r. ⌜ r ≡ (allHoldTyped (variablesIn (now (m .entry)) a v) (varTypes (programOf (now (file .entry)) .fun f)) && framesFit (programOf (now (file .entry))) f (held (variablesIn (now (m .entry)) a v)) (overIs over) (entries 20 frameOf (now (m .entry)) (4480 + low * 20) k)) ⌝ }
+    ensures filled { λ _. ⌜ RowsFilled (now (part .entry)) (now (table .exit)) n ⌝ }
 {
     if last == f {
         return activation_in(file, f, part, n, table, m, a, v, low, k, over);
@@ -150,9 +150,9 @@ fn activation_fits(
     over: Over,
 ) -> bool
     requires file { ⌜ (checkOf (now file) ≡ accepted) × Starts (now file) (now starts) ⌝ }
-    requires room { ⌜ (16384 ≤ length (now m)) × (a < 32) × (framesHeld (activationIn (now m) a) ≤ high) × (high ≤ 512) × ((g : ℕ) → g < functions (now file) → 5 * countOf (now file) g ≤ length (now table)) × (last < functions (now file) → Filled (partOf (now file) last) (now table) (countOf (now file) last)) ⌝ }
+    requires room { ⌜ (16384 ≤ length (now m)) × (a < 32) × (framesHeld (activationIn (now m) a) ≤ high) × (high ≤ 512) × ((g : ℕ) → g < functions (now file) → 5 * countOf (now file) g ≤ length (now table)) × (last < functions (now file) → RowsFilled (partOf (now file) last) (now table) (countOf (now file) last)) ⌝ }
     ensures { λ r. ⌜ r ≡ activationFit (programOf (now (file .entry))) (overIs over) (activationIn (now (m .entry)) a) (framesTo (now (m .entry)) high) ⌝ }
-    ensures filled { λ r. ⌜ ((g : ℕ) → g ≡ getD (now (m .entry)) (activationAt a + 0) 0 → r ≡ true → Filled (partOf (now (file .entry)) g) (now (table .exit)) (countOf (now (file .entry)) g)) ⌝ }
+    ensures filled { λ r. ⌜ ((g : ℕ) → g ≡ getD (now (m .entry)) (activationAt a + 0) 0 → r ≡ true → RowsFilled (partOf (now (file .entry)) g) (now (table .exit)) (countOf (now (file .entry)) g)) ⌝ }
 {
     let f = activation_word(m, a, 0) as usize;
     let k = activation_word(m, a, 1) as usize;
@@ -193,7 +193,7 @@ fn callers_fit(
     f: usize,
 ) -> bool
     requires file { ⌜ (checkOf (now file) ≡ accepted) × Starts (now file) (now starts) × (f < functions (now file)) ⌝ }
-    requires room { ⌜ (16384 ≤ length (now m)) × (n ≤ 32) × (high ≡ heldIn (now m) n) × (high ≤ 512) × ((g : ℕ) → g < functions (now file) → 5 * countOf (now file) g ≤ length (now table)) × Filled (partOf (now file) f) (now table) (countOf (now file) f) ⌝ }
+    requires room { ⌜ (16384 ≤ length (now m)) × (n ≤ 32) × (high ≡ heldIn (now m) n) × (high ≤ 512) × ((g : ℕ) → g < functions (now file) → 5 * countOf (now file) g ≤ length (now table)) × RowsFilled (partOf (now file) f) (now table) (countOf (now file) f) ⌝ }
     ensures { λ r. ⌜ r ≡ callersFit (programOf (now (file .entry))) f (activationsTo (now (m .entry)) n) (framesTo (now (m .entry)) high) ⌝ }
 {
     let mut a = n;
@@ -213,9 +213,9 @@ fn callers_fit(
 
 // Whether the running state that the memory holds is fit for the program of the file, with a table for its parts.
 fn running_fits(file: &[u8], table: &mut [u64], m: &[u32]) -> bool
-    requires file { ⌜ (checkOf (now file) ≡ accepted) × (16384 ≤ length (now m)) × Held (now m) × (getD (now m) 0 0 ≡ 2) ⌝ }
+    requires file { ⌜ (checkOf (now file) ≡ accepted) × (16384 ≤ length (now m)) × HoldsState (now m) × (getD (now m) 0 0 ≡ 2) ⌝ }
     requires table { ⌜ ((g : ℕ) → g < functions (now file) → 5 * countOf (now file) g ≤ length (now table)) ⌝ }
-    ensures { λ r. ⌜ ((s : State) (R : List ℕ) → now (m .entry) ≡ image s ++ R → Within s → Narrow s → r ≡ fit (programOf (now (file .entry))) s) ⌝ }
+    ensures { λ r. ⌜ ((s : State) (R : List ℕ) → now (m .entry) ≡ image s ++ R → WithinLimits s → Narrow s → r ≡ fit (programOf (now (file .entry))) s) ⌝ }
 {
     let n = m[2] as usize;
     let high = frames_held(m, n);
@@ -232,8 +232,8 @@ fn running_fits(file: &[u8], table: &mut [u64], m: &[u32]) -> bool
 
 // Whether the state that the memory holds is fit for the program of the file.
 pub fn fits(file: &[u8], m: &[u32]) -> bool
-    requires { ⌜ (checkOf (now file) ≡ accepted) × (16384 ≤ length (now m)) × Held (now m) ⌝ }
-    ensures { λ r. ⌜ ((s : State) (R : List ℕ) → now (m .entry) ≡ image s ++ R → Within s → Narrow s → r ≡ fit (programOf (now (file .entry))) s) ⌝ }
+    requires { ⌜ (checkOf (now file) ≡ accepted) × (16384 ≤ length (now m)) × HoldsState (now m) ⌝ }
+    ensures { λ r. ⌜ ((s : State) (R : List ℕ) → now (m .entry) ≡ image s ++ R → WithinLimits s → Narrow s → r ≡ fit (programOf (now (file .entry))) s) ⌝ }
 {
     if m[0] != 2 {
         return true;

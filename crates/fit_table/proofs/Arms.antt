@@ -15,12 +15,12 @@ use Rattle.spec_language.specs.Statements.{Read, Statement, Seq, Decl, If, Whil
 use Rattle.spec_language.proofs.Subtrees.{back, child-at, sort-at}
 use Rattle.spec_language.proofs.Trees.{statement-seq, statement-assign, statement-decl, statement-if, statement-while, statement-return, statement-assert, statement-expr, statement-rest}
 use Rattle.fit_table.specs.Summary.{Needs}
-use Rattle.fit_table.proofs.Parts.{nop-summary, return-summary, assert-summary, expr-summary, assign-summary}
+use Rattle.fit_table.proofs.SummaryParts.{nop-summary, return-summary, assert-summary, expr-summary, assign-summary}
 use Rattle.fit_table.specs.declared.rows.Row.{Row}
 use Rattle.fit_table.specs.Rows.{Sums}
 use Rattle.fit_nodes.specs.Part.{Part}
-use Rattle.fit_nodes.proofs.Parts.{all}
-use Rattle.fit_table.specs.Tables.{wordOf, failsIn, returnsIn, Rowed, Filled}
+use Rattle.fit_nodes.proofs.AcceptedParts.{all}
+use Rattle.fit_table.specs.Tables.{wordOf, failsIn, returnsIn, RowSays, RowsFilled}
 use Rattle.fit_table.proofs.Filling.{sized}
 
 -- a row as the table has it
@@ -29,7 +29,7 @@ RowIs r table k =
     ((r .fails ≡ failsIn (wordOf table k 0)) × (r .returned ≡ returnsIn (wordOf table k 0)))
     × ((r .needs .0 ≡ wordOf table k 1) × (r .adds .0 ≡ wordOf table k 2) × (r .drops .0 ≡ wordOf table k 3) × (r .declared .0 ≡ wordOf table k 4))
 
-pub row-sums : {s : Statement} {r : Row} (table : List ℕ) (k : ℕ) → RowIs r table k → Rowed s table k → Sums s r
+pub row-sums : {s : Statement} {r : Row} (table : List ℕ) (k : ℕ) → RowIs r table k → RowSays s table k → Sums s r
 row-sums table k e h = rw (e .0 .0, e .0 .1, e .1 .0, e .1 .1, e .1 .2, e .1 .3) h
 
 -- a row of a statement without parts, as the code makes it
@@ -63,7 +63,7 @@ module _ {s : List ℕ} {f : ℕ} {t : List ℕ} {n : ℕ} (p : Part s f t n) {i
   unfolding last
   after-one kind m e a = omega (arith, kid kind 0 m e a)
 
-  module _ (table : List ℕ) (o : Filled t table i) (r : Row) where
+  module _ (table : List ℕ) (o : RowsFilled t table i) (r : Row) where
     pub seq-arm : {a b : Row} {k : ℕ} → kindAt t i ≡ 7 → k ≡ i - 1 - sizeAt t (i - 1) → RowIs a table k → RowIs b table (i - 1)
         → ((s u : Statement) → Sums s a → Sums u b → Sums (Seq s u) r) → Sums (statementAt t i) r
     unfolding arityOf arities last prior wantsExpression

@@ -14,8 +14,8 @@ use Rattle.spec_language.proofs.Tiles.{Sizes, size-some, size-fits, nested}
 use Rattle.spec_language.proofs.Positions.{sizes}
 use Rattle.spec_language.proofs.Subtrees.{expression-tree}
 use Rattle.fit_nodes.specs.Part.{Part}
-use Rattle.fit_nodes.proofs.Parts.{all, inside, named}
-use Rattle.fit_table.specs.Tables.{Range, wordOf, Filled}
+use Rattle.fit_nodes.proofs.AcceptedParts.{all, inside, named}
+use Rattle.fit_table.specs.Tables.{Range, wordOf, RowsFilled}
 use Rattle.fit_table.proofs.Ranges.{joined, needs-range}
 
 module _ {s : List ℕ} {f : ℕ} {t : List ℕ} {n : ℕ} (p : Part s f t n) where
@@ -38,7 +38,7 @@ module _ {s : List ℕ} {f : ℕ} {t : List ℕ} {n : ℕ} (p : Part s f t n) wh
     fits-size = size-fits t n sized i l
 
   -- the subtree before a covered range joined to it
-  pub needs-step : {i : ℕ} {table : List ℕ} {low a b w low′ : ℕ} → i < n → isExpression (kindAt t i) ≡ true → Filled t table i → i + 1 - sizeAt t i < low → low ≤ i
+  pub needs-step : {i : ℕ} {table : List ℕ} {low a b w low′ : ℕ} → i < n → isExpression (kindAt t i) ≡ true → RowsFilled t table i → i + 1 - sizeAt t i < low → low ≤ i
       → Range t low (i + 1) a → b ≡ wordOf table (low - 1) 1 → has w ≡ either (has a) (has b) → low′ ≡ low - sizeAt t (low - 1)
       → (i + 1 - sizeAt t i ≤ low′) × (low′ ≤ i) × Range t low′ (i + 1) w
   needs-step {i} {table} {low} {a} {b} {w} {low′} l k o g h r e u v =

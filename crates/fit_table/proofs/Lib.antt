@@ -1,6 +1,6 @@
-pub mod Tables
-pub mod Parts
-pub mod Words
+pub mod SetTables
+pub mod SummaryParts
+pub mod EmptyWord
 mod Fails
 mod Ranges
 mod Filling

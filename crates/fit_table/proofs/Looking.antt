@@ -17,7 +17,7 @@ use Rattle.spec_machine.specs.Test.{exprIn}
 use Rattle.fit_table.specs.Summary.{Needs}
 use Rattle.fit_nodes.specs.Part.{Part}
 use Rattle.fit_nodes.proofs.Sorts.{own-expression, expression-inside}
-use Rattle.fit_table.specs.Tables.{wordOf, Rowed, Tabled}
+use Rattle.fit_table.specs.Tables.{wordOf, RowSays, TableSays}
 use Rattle.fit_table.proofs.Arms.{sorted, kid}
 
 -- kinds 7 to 14 are no expressions
@@ -25,7 +25,7 @@ no-expression : (k : ℕ) → 7 ≤ k → k ≤ 14 → isExpression k ≡ false
 unfolding isExpression
 no-expression k a b = rw (le-ltb k 6 (omega arith), ne-eqb k 15 (λ e. omega arith))
 
-module _ {s : List ℕ} {f : ℕ} {t : List ℕ} {n : ℕ} (p : Part s f t n) {table : List ℕ} (o : Tabled t n table) where
+module _ {s : List ℕ} {f : ℕ} {t : List ℕ} {n : ℕ} (p : Part s f t n) {table : List ℕ} (o : TableSays t n table) where
   pub row-room : {i : ℕ} → i < n → 5 * i + 5 ≤ length table
   row-room l = omega (arith, o .1)
 
@@ -34,21 +34,21 @@ module _ {s : List ℕ} {f : ℕ} {t : List ℕ} {n : ℕ} (p : Part s f t n) {t
   expression-row i h = let l = expression-inside p i h in o .0 .reads i l (own-expression p i l refl refl ∙ h)
 
   -- a statement of the function
-  pub statement-row : (i : ℕ) → i < n → (ltb i n && (leb 7 (kindAt t i) && leb (kindAt t i) 14)) ≡ true → Rowed (statementAt t i) table i
+  pub statement-row : (i : ℕ) → i < n → (ltb i n && (leb 7 (kindAt t i) && leb (kindAt t i) 14)) ≡ true → RowSays (statementAt t i) table i
   statement-row i l h =
       let k = and-right (ltb i n) _ h in
       o .0 .flows i l (no-expression (kindAt t i) (leb-true 7 _ (and-left (leb 7 (kindAt t i)) _ k)) (leb-true _ 14 (and-right (leb 7 (kindAt t i)) _ k)))
 
   -- a while, its body and its condition
   module _ {w : ℕ} (l : w < n) (k : kindAt t w ≡ 11) where
-    pub while-row : Rowed (statementAt t w) table w
+    pub while-row : RowSays (statementAt t w) table w
     while-row = o .0 .flows w l (rw k (no-expression 11 (omega arith) (omega arith)))
 
     pub body-below : w - 1 < w
     unfolding arityOf arities last
     body-below = kid p l 11 0 1 k refl
 
-    pub body-row : Rowed (statementAt t (w - 1)) table (w - 1)
+    pub body-row : RowSays (statementAt t (w - 1)) table (w - 1)
     unfolding arityOf arities last wantsExpression
     body-row = o .0 .flows (w - 1) (omega (arith, l)) (sorted p l w 11 0 1 l k refl)
 

@@ -16,7 +16,7 @@ use Rattle.spec_language.specs.Statements.{readsOf, statementAt}
 use Rattle.fit_table.specs.Summary.{Needs}
 use Rattle.fit_table.specs.declared.rows.Row.{Row}
 use Rattle.fit_table.specs.Rows.{Sums}
-use Rattle.fit_table.specs.Tables.{wordOf, failsIn, returnsIn, Rowed, Filled}
+use Rattle.fit_table.specs.Tables.{wordOf, failsIn, returnsIn, RowSays, RowsFilled}
 
 -- the words stored
 puts-same : (vs l : List ℕ) (at k m : ℕ) → m < length vs → at + (k + length vs) ≤ length l → getD (puts l at k vs) (at + (k + m)) 0 ≡ getD vs m 0
@@ -38,8 +38,8 @@ module _ (table stored : List ℕ) (i a b c d e : ℕ) (room : 5 * i + 5 ≤ len
   here j h = let z : 0 + j ≡ j = omega arith in rw put (rw z at (puts-same (a ∷ b ∷ c ∷ d ∷ e ∷ []) table (5 * i) 0 j h (omega arith)))
 
   -- one row more, of an expression and of a statement
-  module _ {t : List ℕ} (o : Filled t table i) where
-    more : (isExpression (kindAt t i) ≡ true → Needs (readsOf t i) (wordOf stored i 1)) → (isExpression (kindAt t i) ≡ false → Rowed (statementAt t i) stored i) → Filled t stored (i + 1)
+  module _ {t : List ℕ} (o : RowsFilled t table i) where
+    more : (isExpression (kindAt t i) ≡ true → Needs (readsOf t i) (wordOf stored i 1)) → (isExpression (kindAt t i) ≡ false → RowSays (statementAt t i) stored i) → RowsFilled t stored (i + 1)
     more n m =
         record {
           reads = λ k l y. near-reads k l y (decLt k i);
@@ -50,18 +50,18 @@ module _ (table stored : List ℕ) (i a b c d e : ℕ) (room : 5 * i + 5 ≤ len
         near-reads k l y (yes h) = rw (before k 1 h (omega arith)) (o .reads k h y)
         near-reads k l y (no h) = let q : k ≡ i = omega arith in rw q (n (rw q at y))
 
-        near-flows : (k : ℕ) → k < i + 1 → isExpression (kindAt t k) ≡ false → Dec (k < i) → Rowed (statementAt t k) stored k
+        near-flows : (k : ℕ) → k < i + 1 → isExpression (kindAt t k) ≡ false → Dec (k < i) → RowSays (statementAt t k) stored k
         near-flows k l y (yes h) = rw (before k 0 h (omega arith), before k 1 h (omega arith), before k 2 h (omega arith), before k 3 h (omega arith), before k 4 h (omega arith)) (o .flows k h y)
         near-flows k l y (no h) = let q : k ≡ i = omega arith in rw q (m (rw q at y))
 
-    pub more-reads : isExpression (kindAt t i) ≡ true → Needs (readsOf t i) b → Filled t stored (i + 1)
+    pub more-reads : isExpression (kindAt t i) ≡ true → Needs (readsOf t i) b → RowsFilled t stored (i + 1)
     more-reads x n = more (λ y. rw (here 1 (omega arith)) n) (λ y. clash (isExpression (kindAt t i)) x y)
 
     pub more-flows : {r : Row} → isExpression (kindAt t i) ≡ false → Sums (statementAt t i) r → (failsIn a ≡ r .fails) × (returnsIn a ≡ r .returned)
-        → b ≡ r .needs .0 → c ≡ r .adds .0 → d ≡ r .drops .0 → e ≡ r .declared .0 → Filled t stored (i + 1)
+        → b ≡ r .needs .0 → c ≡ r .adds .0 → d ≡ r .drops .0 → e ≡ r .declared .0 → RowsFilled t stored (i + 1)
     more-flows {r} x n g u₁ u₂ u₃ u₄ =
         more (λ y. clash (isExpression (kindAt t i)) y x)
         (λ y. rw (here 0 (omega arith), here 1 (omega arith), here 2 (omega arith), here 3 (omega arith), here 4 (omega arith), g .0, g .1, u₁, u₂, u₃, u₄) n)
 
-pub none-filled : (t table : List ℕ) → Filled t table 0
+pub none-filled : (t table : List ℕ) → RowsFilled t table 0
 none-filled t table = record { reads = λ k l y. absurd (omega arith); flows = λ k l y. absurd (omega arith) }

@@ -20,7 +20,7 @@ ghost use Rattle.spec_language.specs.Statements.{readsOf, statementAt};
 ghost use Rattle.fit_table.specs.Summary.{Needs};
 ghost use Rattle.fit_table.specs.Rows.{Sums};
 ghost use Rattle.fit_nodes.specs.Part.{Part};
-ghost use Rattle.fit_table.specs.Tables.{Range, wordOf, failsIn, returnsIn, Filled};
+ghost use Rattle.fit_table.specs.Tables.{Range, wordOf, failsIn, returnsIn, RowsFilled};
 
 // The first word of a row.
 fn flags_of(fails: bool, ends: bool) -> u64
@@ -86,7 +86,7 @@ fn own_read(part: &[u8], i: usize) -> VarSet
 // What the expression at node i needs, from the rows of the nodes before it.
 fn expression_needs(file: &[u8], f: usize, part: &[u8], n: usize, table: &[u64], i: usize) -> VarSet
     requires part { ⌜ Part (now file) f (now part) n × (i < n) × (isExpression (kindAt (now part) i) ≡ true) ⌝ }
-    requires table { ⌜ Filled (now part) (now table) i × (5 * n ≤ length (now table)) ⌝ }
+    requires table { ⌜ RowsFilled (now part) (now table) i × (5 * n ≤ length (now table)) ⌝ }
     ensures { λ r. ⌜ Needs (readsOf (now (part .entry)) i) (r .0) ⌝ }
 {
     let mut set = own_read(part, i);
@@ -104,7 +104,7 @@ fn expression_needs(file: &[u8], f: usize, part: &[u8], n: usize, table: &[u64],
 // What the statement at node i does, from the rows of the nodes before it.
 fn statement_row(file: &[u8], f: usize, part: &[u8], n: usize, table: &[u64], i: usize) -> Row
     requires part { ⌜ Part (now file) f (now part) n × (i < n) × (isExpression (kindAt (now part) i) ≡ false) ⌝ }
-    requires table { ⌜ Filled (now part) (now table) i × (5 * n ≤ length (now table)) ⌝ }
+    requires table { ⌜ RowsFilled (now part) (now table) i × (5 * n ≤ length (now table)) ⌝ }
     ensures { λ r. ⌜ Sums (statementAt (now (part .entry)) i) r ⌝ }
 {
     let kind = kind_at(part, i);
@@ -162,8 +162,8 @@ fn statement_row(file: &[u8], f: usize, part: &[u8], n: usize, table: &[u64], i:
 // Stores the row of node i after those of the nodes before it.
 fn add_row(file: &[u8], f: usize, part: &[u8], n: usize, table: &mut [u64], i: usize)
     requires part { ⌜ Part (now file) f (now part) n × (i < n) ⌝ }
-    requires table { ⌜ Filled (now part) (now table) i × (5 * n ≤ length (now table)) ⌝ }
-    ensures { λ _. ⌜ Filled (now (part .entry)) (now (table .exit)) (i + 1) ⌝ }
+    requires table { ⌜ RowsFilled (now part) (now table) i × (5 * n ≤ length (now table)) ⌝ }
+    ensures { λ _. ⌜ RowsFilled (now (part .entry)) (now (table .exit)) (i + 1) ⌝ }
 {
     let kind = kind_at(part, i);
     if check_sorts::is_expression(kind) {
@@ -179,7 +179,7 @@ fn add_row(file: &[u8], f: usize, part: &[u8], n: usize, table: &mut [u64], i: u
 // Fills the rows of the n nodes of a part.
 pub fn fill(file: &[u8], f: usize, part: &[u8], n: usize, table: &mut [u64])
     requires { ⌜ Part (now file) f (now part) n × (5 * n ≤ length (now table)) ⌝ }
-    ensures { λ _. ⌜ Filled (now (part .entry)) (now (table .exit)) n ⌝ }
+    ensures { λ _. ⌜ RowsFilled (now (part .entry)) (now (table .exit)) n ⌝ }
 {
     let mut i = 0;
     while i < n {

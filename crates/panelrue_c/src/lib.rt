@@ -17,7 +17,7 @@ ghost use Rattle.varset.specs.Lowest.{pick};
 ghost use lib.Dec.{leb};
 ghost use lib.ListN.{length};
 ghost use Rattle.panelrue_c.specs.Packed.{packed};
-ghost use Rattle.panelrue_c.specs.Told.{outcomeNumber, outcomeWord, runNumber, runWords, bitOf, lookNumber, lookWords};
+ghost use Rattle.panelrue_c.specs.HostAnswers.{outcomeNumber, outcomeWord, runNumber, runWords, bitOf, lookNumber, lookWords};
 
 // A byte, an item and a place as wider numbers.
 fn pack(question: u8, place: usize, item: u32) -> u64

@@ -2,8 +2,8 @@ pub mod Bools
 pub mod Ranges
 pub mod Arities
 pub mod Loops
-pub mod Parts
-pub mod Tables
+pub mod PartWalks
+pub mod EntryTables
 pub mod Masks
 pub mod Children
 pub mod StartTables

@@ -5,26 +5,27 @@ use mathlib.Core.List.{List, [], _∷_, _++_}
 use Prim.Native.Nat.{ℕ, zero, suc, _+_, _-_, _≤_, _<_}
 use native.Mathlib.Omega.{arith}
 use lib.ListN.{replicate}
+use Rattle.varset.specs.Lowest.{pick}
 use Rattle.words.specs.Blocks.{puts}
 use Rattle.arith.specs.Int.{int}
 use Rattle.spec_machine.specs.Values.{Value}
 use Rattle.spec_machine.specs.Program.{Program}
 use Rattle.spec_machine.specs.Machine as machine
-use Rattle.spec_machine.specs.Machine.{Frame, Control, Saved, calm, State, running, Rule}
+use Rattle.spec_machine.specs.Machine.{Frame, Control, Saved, emptyEnv, State, running, Rule}
 use Rattle.spec_machine.specs.Next.{Move, goes, next}
 use Rattle.spec_machine.specs.Run as run
-use Rattle.spec_machine.specs.Run.{within, onward, runOf}
+use Rattle.spec_machine.specs.Run.{withinLimits, onward, runOf}
 use Rattle.spec_image.specs.Layout.{filled}
 use Rattle.spec_image.specs.Image.{headWords, activationsOf, framesOf, image}
 use Rattle.spec_image.proofs.Heads.{rooms-head, image-rooms, empty-rooms}
-use Rattle.run_rules.specs.Comes.{Cleared}
+use Rattle.run_rules.specs.StepsTo.{Cleared}
 use Rattle.run_loop.specs.declared.Outcome.{Outcome}
 use Rattle.run_loop.specs.declared.Outcome.the-variants as code
 use Rattle.run_loop.specs.Runs.{outcomeOf, Ends, Rests}
 
 -- ---- states without activations
 
-pub returned-rests : (c : ℕ) → Rests (machine.returned calm c) 3 c
+pub returned-rests : (c : ℕ) → Rests (machine.returned emptyEnv c) 3 c
 unfolding headWords activationsOf framesOf
 returned-rests c = record { head = refl; activations = refl; frames = refl }
 
@@ -55,7 +56,7 @@ rest-stored s m R tag word c r =
 -- ---- one step, and the run after it
 
 one-step : (P : Program) (a : ℕ) (s t : State) (r : Rule) → next P s ≡ goes r t
-    → runOf P (suc a) s ≡ run.pickR (within t) (run.counted (runOf P a t)) (record { outcome = run.Full; steps = 0; state = s })
+    → runOf P (suc a) s ≡ pick (withinLimits t) (run.counted (runOf P a t)) (record { outcome = run.Full; steps = 0; state = s })
 unfolding runOf
 one-step P a s t r e = ap (λ (m : Move). onward s m (λ u. runOf P a u)) e
 
@@ -63,13 +64,13 @@ module _ (P : Program) (n k : ℕ) (s t : State) (r : Rule) (less : k < n) (e : 
   left : n - k ≡ suc (n - (k + 1))
   left = omega arith
 
-  pub ends-step : {o : Outcome} {st : ℕ} {m R : List ℕ} → within t ≡ true → Ends (k + 1) (runOf P (n - (k + 1)) t) o st m R → Ends k (runOf P (n - k) s) o st m R
+  pub ends-step : {o : Outcome} {st : ℕ} {m R : List ℕ} → withinLimits t ≡ true → Ends (k + 1) (runOf P (n - (k + 1)) t) o st m R → Ends k (runOf P (n - k) s) o st m R
   ends-step w q =
       let i : runOf P (n - k) s ≡ run.counted (runOf P (n - (k + 1)) t) = rw left (one-step P (n - (k + 1)) s t r e ∙ rw w) in
       let d = q .steps-are in
       rw i (record { outcome-is = q .outcome-is; steps-are = omega arith; held = q .held })
 
-  pub ends-full : {m R : List ℕ} → within t ≡ false → m ≡ image s ++ R → Ends k (runOf P (n - k) s) code.Full k m R
+  pub ends-full : {m R : List ℕ} → withinLimits t ≡ false → m ≡ image s ++ R → Ends k (runOf P (n - k) s) code.Full k m R
   unfolding outcomeOf
   ends-full w q =
       let i : runOf P (n - k) s ≡ record { outcome = run.Full; steps = 0; state = s } = rw left (one-step P (n - (k + 1)) s t r e ∙ rw w) in
@@ -79,13 +80,13 @@ module _ (P : Program) (n k : ℕ) (s t : State) (r : Rule) (less : k < n) (e : 
 
 module _ (P : Program) where
   pub ends-spent : (n k : ℕ) (c : Control) (f : ℕ) (η : List Value) (K : List Frame) (A : List Saved) (m R : List ℕ) → n ≤ k
-      → m ≡ image (running c calm f η K A) ++ R → Ends k (runOf P (n - k) (running c calm f η K A)) code.Spent k m R
+      → m ≡ image (running c emptyEnv f η K A) ++ R → Ends k (runOf P (n - k) (running c emptyEnv f η K A)) code.Spent k m R
   unfolding runOf outcomeOf
   ends-spent n k c f η K A m R h q =
       let z : n - k ≡ 0 = omega arith in
       rw z (record { outcome-is = refl; steps-are = omega arith; held = q })
 
-  pub ends-returned : (n k w : ℕ) (m R : List ℕ) → n ≤ k → m ≡ image (machine.returned calm w) ++ R → Ends k (runOf P (n - k) (machine.returned calm w)) code.Spent k m R
+  pub ends-returned : (n k w : ℕ) (m R : List ℕ) → n ≤ k → m ≡ image (machine.returned emptyEnv w) ++ R → Ends k (runOf P (n - k) (machine.returned emptyEnv w)) code.Spent k m R
   unfolding runOf outcomeOf
   ends-returned n k w m R h q =
       let z : n - k ≡ 0 = omega arith in

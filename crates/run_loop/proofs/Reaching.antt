@@ -7,7 +7,7 @@ use lib.ListN.{length, getD}
 use Rattle.spec_language.specs.Check.{accepted, checkOf}
 use Rattle.spec_machine.specs.Values.{Value}
 use Rattle.spec_machine.specs.Machine as machine
-use Rattle.spec_machine.specs.Machine.{Frame, Saved, calm, State, running}
+use Rattle.spec_machine.specs.Machine.{Frame, Saved, emptyEnv, State, running}
 use Rattle.spec_machine.specs.Next.{goes, next}
 use Rattle.spec_machine.specs.Run.{runOf}
 use Rattle.spec_machine.specs.Fit.{Fit}
@@ -22,40 +22,40 @@ use Rattle.spec_image.specs.Image.{image}
 use Rattle.spec_image.specs.Core.{core}
 use Rattle.state_words.specs.declared.Control as code
 use Rattle.state_words.specs.Meaning.{controlIs}
-use Rattle.run_rules.specs.declared.Head.{Head}
+use Rattle.run_rules.specs.declared.Registers.{Registers}
 use Rattle.run_rules.specs.declared.Stepped.{Stepped}
 use Rattle.run_rules.specs.declared.Stepped.the-variants.{Went, Full, Returned, Arith, Abort}
-use Rattle.run_rules.specs.Comes.{Tells, Bounds, Cleared, Comes}
+use Rattle.run_rules.specs.StepsTo.{Describes, Bounds, Cleared, StepsTo}
 use Rattle.records.specs.Starts.{Starts}
-use Rattle.run_step.specs.Done.{Stands, Done}
-use Rattle.run_step.proofs.Given.{limited}
+use Rattle.run_step.specs.StepsBy.{AtFitState, StepsBy}
+use Rattle.run_step.proofs.GiveNeeds.{limited}
 use Rattle.run_loop.specs.declared.Outcome.{Outcome}
 use Rattle.run_loop.specs.declared.Outcome.the-variants as outcome
 use Rattle.run_loop.specs.Runs.{outcomeOf, Ends}
 use Rattle.run_loop.proofs.Ending.{ends-step, ends-full, ends-raised}
 
 -- after k steps the run from σ stands here, and ends as the run from here does
-pub record Reached (s : List ℕ) (n d : ℕ) (σ : State) (k : ℕ) (c : code.Control) (h : Head) (m R : List ℕ) : Type 0 where
+pub record Reached (s : List ℕ) (n d : ℕ) (σ : State) (k : ℕ) (c : code.Control) (h : Registers) (m R : List ℕ) : Type 0 where
   pub function : ℕ
   pub variables : List Value
   pub frames : List Frame
   pub callers : List Saved
   pub held : m ≡ core function variables frames callers ++ R
-  pub tells : Tells s h function frames callers
-  pub fit : Fit (programOf s) (running (controlIs c) calm function variables frames callers)
-  pub then : (o : Outcome) (st : ℕ) (m' : List ℕ) → Ends k (runOf (programOf s) (n - k) (running (controlIs c) calm function variables frames callers)) o st m' R
+  pub tells : Describes s h function frames callers
+  pub fit : Fit (programOf s) (running (controlIs c) emptyEnv function variables frames callers)
+  pub then : (o : Outcome) (st : ℕ) (m' : List ℕ) → Ends k (runOf (programOf s) (n - k) (running (controlIs c) emptyEnv function variables frames callers)) o st m' R
       → Ends d (runOf (programOf s) (n - d) σ) o st m' R
 
 -- at the first
-pub reached : (s : List ℕ) (n d : ℕ) (c : code.Control) (h : Head) (m R : List ℕ) (f : ℕ) (η : List Value) (K : List Frame) (A : List Saved)
-    → m ≡ core f η K A ++ R → Tells s h f K A → Fit (programOf s) (running (controlIs c) calm f η K A)
-    → Reached s n d (running (controlIs c) calm f η K A) d c h m R
+pub reached : (s : List ℕ) (n d : ℕ) (c : code.Control) (h : Registers) (m R : List ℕ) (f : ℕ) (η : List Value) (K : List Frame) (A : List Saved)
+    → m ≡ core f η K A ++ R → Describes s h f K A → Fit (programOf s) (running (controlIs c) emptyEnv f η K A)
+    → Reached s n d (running (controlIs c) emptyEnv f η K A) d c h m R
 reached s n d c h m R f η K A e t q =
     record { function = f; variables = η; frames = K; callers = A; held = e; tells = t; fit = q; then = λ o st m' x. x }
 
 -- it is where a step may be taken
-pub reached-stands : (s table : List ℕ) (n d : ℕ) (σ : State) (k : ℕ) (c : code.Control) (h : Head) (m R : List ℕ) → checkOf s ≡ accepted → Starts s table
-    → Reached s n d σ k c h m R → Stands s table (controlIs c) h m
+pub reached-stands : (s table : List ℕ) (n d : ℕ) (σ : State) (k : ℕ) (c : code.Control) (h : Registers) (m R : List ℕ) → checkOf s ≡ accepted → Starts s table
+    → Reached s n d σ k c h m R → AtFitState s table (controlIs c) h m
 reached-stands s table n d σ k c h m R p i r =
     let q = sym (r .tells .function) in
     record {
@@ -70,23 +70,23 @@ reached-stands s table n d σ k c h m R p i r =
       fit = rw q at (r .fit);
     }
 
-module _ (s : List ℕ) (bytes : (i : ℕ) → getD s i 0 < 256) (passed : checkOf s ≡ accepted) (n d : ℕ) (σ : State) (k : ℕ) (c : code.Control) (h : Head) (m m' R : List ℕ)
+module _ (s : List ℕ) (bytes : (i : ℕ) → getD s i 0 < 256) (passed : checkOf s ≡ accepted) (n d : ℕ) (σ : State) (k : ℕ) (c : code.Control) (h : Registers) (m m' R : List ℕ)
     (less : k < n) (r : Reached s n d σ k c h m R) where
   abbrev here : State
-  here = running (controlIs c) calm (r .function) (r .variables) (r .frames) (r .callers)
+  here = running (controlIs c) emptyEnv (r .function) (r .variables) (r .frames) (r .callers)
 
   abbrev Step : Stepped → Type 0
-  Step a = Done s a m m' R (next (programOf s) here)
+  Step a = StepsBy s a m m' R (next (programOf s) here)
 
   -- the rule that applies
   applies : Applies (programOf s) here
   applies = progress (accepted-program s passed) here (r .fit .proper) tt
 
-  comes : (a : Stepped) → Step a → Comes s a m m' R (applies .state)
+  comes : (a : Stepped) → Step a → StepsTo s a m m' R (applies .state)
   comes a q = rw (sound (applies .step)) at q
 
-  pub reached-on : (c' : code.Control) (h' : Head) → Step (Went c' h') → Reached s n d σ (k + 1) c' h' m' R
-  unfolding Comes
+  pub reached-on : (c' : code.Control) (h' : Registers) → Step (Went c' h') → Reached s n d σ (k + 1) c' h' m' R
+  unfolding StepsTo
   reached-on c' h' q =
       let o = comes (Went c' h') q in
       let f = stays-fit s bytes passed (r .fit) (applies .step) (limits-say (applies .state) .so (o .limits)) in
@@ -104,33 +104,33 @@ module _ (s : List ℕ) (bytes : (i : ℕ) → getD s i 0 < 256) (passed : check
 
   -- what follows is stored in the memory l
   pub reached-full : Step Full → (l : List ℕ) → (m' ≡ m → l ≡ image here ++ R) → Ends d (runOf (programOf s) (n - d) σ) outcome.Full k l R
-  unfolding Comes
+  unfolding StepsTo
   reached-full q l i =
       let o = comes Full q in
       r .then outcome.Full k l (ends-full (programOf s) n k here (applies .state) (applies .rule) less (sound (applies .step)) (o .0) (i (o .1)))
 
   pub reached-returned : (w : ℕ) → Step (Returned w) → (o : Outcome) (st : ℕ) (l : List ℕ)
-      → (Cleared m' R → Ends (k + 1) (runOf (programOf s) (n - (k + 1)) (machine.returned calm w)) o st l R) → Ends d (runOf (programOf s) (n - d) σ) o st l R
-  unfolding Comes
+      → (Cleared m' R → Ends (k + 1) (runOf (programOf s) (n - (k + 1)) (machine.returned emptyEnv w)) o st l R) → Ends d (runOf (programOf s) (n - d) σ) o st l R
+  unfolding StepsTo
   reached-returned w q o st l i =
       let z = comes (Returned w) q in
-      let e : next (programOf s) here ≡ goes (applies .rule) (machine.returned calm w) = sound (applies .step) ∙ ap (goes (applies .rule)) (z .0) in
-      r .then o st l (ends-step (programOf s) n k here (machine.returned calm w) (applies .rule) less e refl (i (z .1)))
+      let e : next (programOf s) here ≡ goes (applies .rule) (machine.returned emptyEnv w) = sound (applies .step) ∙ ap (goes (applies .rule)) (z .0) in
+      r .then o st l (ends-step (programOf s) n k here (machine.returned emptyEnv w) (applies .rule) less e refl (i (z .1)))
 
   pub reached-arith : Step Arith → (l : List ℕ) → (Cleared m' R → l ≡ image (machine.exception machine.arith) ++ R) → Ends d (runOf (programOf s) (n - d) σ) outcome.Arith (k + 1) l R
-  unfolding Comes outcomeOf
+  unfolding StepsTo outcomeOf
   reached-arith q l i =
       let z = comes Arith q in
       let e : next (programOf s) here ≡ goes (applies .rule) (machine.exception machine.arith) = sound (applies .step) ∙ ap (goes (applies .rule)) (z .0) in
       r .then outcome.Arith (k + 1) l (ends-step (programOf s) n k here (machine.exception machine.arith) (applies .rule) less e refl (ends-raised (programOf s) n (k + 1) machine.arith l R (i (z .1))))
 
   pub reached-abort : Step Abort → (l : List ℕ) → (Cleared m' R → l ≡ image (machine.exception machine.abort) ++ R) → Ends d (runOf (programOf s) (n - d) σ) outcome.Abort (k + 1) l R
-  unfolding Comes outcomeOf
+  unfolding StepsTo outcomeOf
   reached-abort q l i =
       let z = comes Abort q in
       let e : next (programOf s) here ≡ goes (applies .rule) (machine.exception machine.abort) = sound (applies .step) ∙ ap (goes (applies .rule)) (z .0) in
       r .then outcome.Abort (k + 1) l (ends-step (programOf s) n k here (machine.exception machine.abort) (applies .rule) less e refl (ends-raised (programOf s) n (k + 1) machine.abort l R (i (z .1))))
 
 -- its limits
-pub reached-bounds : (s : List ℕ) (n d : ℕ) (σ : State) (k : ℕ) (c : code.Control) (h : Head) (m R : List ℕ) → Reached s n d σ k c h m R → 16384 ≤ length m → Bounds h m
+pub reached-bounds : (s : List ℕ) (n d : ℕ) (σ : State) (k : ℕ) (c : code.Control) (h : Registers) (m R : List ℕ) → Reached s n d σ k c h m R → 16384 ≤ length m → Bounds h m
 reached-bounds s n d σ k c h m R r l = let q = limited (r .tells) (r .fit) in (l, q .0, q .1)

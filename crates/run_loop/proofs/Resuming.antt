@@ -10,7 +10,7 @@ use Rattle.records.specs.Parts.{startOf}
 use Rattle.words.specs.Segments.{total}
 use Rattle.spec_language.specs.Check.{accepted, checkOf}
 use Rattle.spec_machine.specs.Values.{Value}
-use Rattle.spec_machine.specs.Machine.{Frame, Control, Saved, calm, running}
+use Rattle.spec_machine.specs.Machine.{Frame, Control, Saved, emptyEnv, running}
 use Rattle.spec_machine.specs.Run.{runOf}
 use Rattle.spec_machine.specs.Fit.{Fit}
 use Rattle.spec_machine.specs.File.{programOf}
@@ -18,25 +18,25 @@ use Rattle.spec_image.specs.Layout.{filled, activation, activationWords}
 use Rattle.spec_image.specs.Image.{savedActivations, savedFrames, headWords, activationsOf, framesOf, image}
 use Rattle.spec_image.specs.Decode.{controlOf, framesHeld, heldIn, activationsIn}
 use Rattle.spec_image.specs.Core.{core}
-use Rattle.spec_image.proofs.Parts.{control-back}
-use Rattle.spec_image.proofs.Blocks.{length-filled}
+use Rattle.spec_image.proofs.ValueWords.{control-back}
+use Rattle.spec_image.proofs.BlockLengths.{length-filled}
 use Rattle.spec_image.proofs.Images.{length-saved, frames-held, activations-in}
 use Rattle.spec_image.proofs.Rooms.{activation-word}
 use Rattle.spec_image.proofs.Heads.{image-rooms, running-word, frame-count}
 use Rattle.spec_image.proofs.Sized.{file-sized, fit-narrow}
 use Rattle.state_words.specs.declared.Control as code
 use Rattle.state_words.specs.Meaning.{controlIs}
-use Rattle.run_rules.specs.declared.Head.{Head}
-use Rattle.run_rules.specs.Comes.{Tells}
+use Rattle.run_rules.specs.declared.Registers.{Registers}
+use Rattle.run_rules.specs.StepsTo.{Describes}
 use Rattle.records.specs.Starts.{Starts}
-use Rattle.run_step.specs.Done.{Stands}
+use Rattle.run_step.specs.StepsBy.{AtFitState}
 use Rattle.run_loop.specs.declared.Outcome.{Outcome}
 use Rattle.run_loop.specs.Runs.{Ends}
 
 module _ (s : List ℕ) (passed : checkOf s ≡ accepted) (l : List ℕ) (c : Control) (f : ℕ) (η : List Value) (K : List Frame) (A : List Saved) (R : List ℕ)
-    (held : l ≡ image (running c calm f η K A) ++ R) (fit : Fit (programOf s) (running c calm f η K A)) where
+    (held : l ≡ image (running c emptyEnv f η K A) ++ R) (fit : Fit (programOf s) (running c emptyEnv f η K A)) where
   pub resumed-count : getD l 2 0 ≡ suc (length A)
-  resumed-count = rw held (running-word c calm f η K A R 2 (omega arith))
+  resumed-count = rw held (running-word c emptyEnv f η K A R 2 (omega arith))
 
   pub resumed-few : length A < 32
   resumed-few = omega (arith, fit .within .0)
@@ -46,7 +46,7 @@ module _ (s : List ℕ) (passed : checkOf s ≡ accepted) (l : List ℕ) (c : Co
   resumed-known = fit .proper .known
 
   pub resumed-control : controlOf (getD l 3 0) (getD l 4 0) ≡ c
-  resumed-control = rw (held, running-word c calm f η K A R 3 (omega arith), running-word c calm f η K A R 4 (omega arith)) (control-back c)
+  resumed-control = rw (held, running-word c emptyEnv f η K A R 3 (omega arith), running-word c emptyEnv f η K A R 4 (omega arith)) (control-back c)
 
   module _ (a : ℕ) (here : a ≡ getD l 2 0 - 1) where
     pub resumed-callers : a ≡ length A
@@ -55,18 +55,18 @@ module _ (s : List ℕ) (passed : checkOf s ≡ accepted) (l : List ℕ) (c : Co
     pub resumed-function : (b : ℕ) → b ≡ 128 + a * 136 + 0 → getD l b 0 ≡ f
     unfolding activationsOf framesOf activationWords filled
     resumed-function b e =
-        rw (held, e, image-rooms (running c calm f η K A))
-        (activation-word (filled 128 (headWords (running c calm f η K A))) R (savedActivations A) (K ++ savedFrames A)
-        (length-filled 128 (headWords (running c calm f η K A))) a (resumed-callers ∙ sym (length-saved A)) (activation f (length K) η) 0 (omega arith))
+        rw (held, e, image-rooms (running c emptyEnv f η K A))
+        (activation-word (filled 128 (headWords (running c emptyEnv f η K A))) R (savedActivations A) (K ++ savedFrames A)
+        (length-filled 128 (headWords (running c emptyEnv f η K A))) a (resumed-callers ∙ sym (length-saved A)) (activation f (length K) η) 0 (omega arith))
 
     pub resumed-frames : (b : ℕ) → b ≡ 128 + a * 136 + 1 → getD l b 0 ≡ length K
-    resumed-frames b e = rw held (frame-count c calm f η K A R a b resumed-callers e)
+    resumed-frames b e = rw held (frame-count c emptyEnv f η K A R a b resumed-callers e)
 
     -- all frames, from the counts in the activations
     pub resumed-total : heldIn l (a + 1) ≡ length K + length (savedFrames A)
     unfolding activationsIn framesOf
     resumed-total =
-        let σ = running c calm f η K A in
+        let σ = running c emptyEnv f η K A in
         let n : a + 1 ≡ getD l 2 0 = omega (arith, here, resumed-count) in
         let t : heldIn l (a + 1) ≡ total framesHeld (activationsIn l) = ap (heldIn l) n in
         let u : total framesHeld (activationsIn l) ≡ length (framesOf σ)
@@ -74,14 +74,14 @@ module _ (s : List ℕ) (passed : checkOf s ≡ accepted) (l : List ℕ) (c : Co
         t ∙ u ∙ length-append K (savedFrames A)
 
     pub resumed-tells : (g st n k u : ℕ) → g ≡ f → st ≡ 12 * startOf s f → n ≡ countOf s f → k ≡ length K → u ≡ heldIn l (a + 1) - k
-        → Tells s (record { function = g; start = st; count = n; callers = a; frames = k; under = u }) f K A
+        → Describes s (record { function = g; start = st; count = n; callers = a; frames = k; under = u }) f K A
     resumed-tells g st n k u hg hs hn hk hu =
         record { function = hg; start = hs; count = hn; callers = resumed-callers; frames = hk; under = omega (arith, hk, hu, resumed-total) }
 
-    pub resumed-stands : (table : List ℕ) (d : code.Control) (h : Head) (m : List ℕ) → Starts s table → Tells s h f K A → controlIs d ≡ c → m ≡ core f η K A ++ R → Stands s table (controlIs d) h m
+    pub resumed-stands : (table : List ℕ) (d : code.Control) (h : Registers) (m : List ℕ) → Starts s table → Describes s h f K A → controlIs d ≡ c → m ≡ core f η K A ++ R → AtFitState s table (controlIs d) h m
     resumed-stands table d h m i t e k =
         let q = sym (t .function) in
-        let g : Fit (programOf s) (running (controlIs d) calm f η K A) = rw e fit in
+        let g : Fit (programOf s) (running (controlIs d) emptyEnv f η K A) = rw e fit in
         record {
           passed = passed;
           starts = i;
@@ -96,9 +96,9 @@ module _ (s : List ℕ) (passed : checkOf s ≡ accepted) (l : List ℕ) (c : Co
 
 -- the run of the code's control is the run of the state's
 pub resumed-run : (s : List ℕ) (n : ℕ) (d : code.Control) (o : Outcome) (c : Control) (f : ℕ) (η : List Value) (K : List Frame) (A : List Saved) (st : ℕ) (m R : List ℕ)
-    → controlIs d ≡ c → Fit (programOf s) (running c calm f η K A)
-    → (Fit (programOf s) (running (controlIs d) calm f η K A) → Ends 0 (runOf (programOf s) (n - 0) (running (controlIs d) calm f η K A)) o st m R)
-    → Ends 0 (runOf (programOf s) n (running c calm f η K A)) o st m R
+    → controlIs d ≡ c → Fit (programOf s) (running c emptyEnv f η K A)
+    → (Fit (programOf s) (running (controlIs d) emptyEnv f η K A) → Ends 0 (runOf (programOf s) (n - 0) (running (controlIs d) emptyEnv f η K A)) o st m R)
+    → Ends 0 (runOf (programOf s) n (running c emptyEnv f η K A)) o st m R
 resumed-run s n d o c f η K A st m R e fit q =
     let z = q (rw e fit) in
     rw (e, sub-zero n) at z

@@ -13,7 +13,7 @@ use Rattle.spec_language.proofs.Accept.{accepted-is, header, parts}
 use Rattle.spec_machine.specs.Values.{nothing}
 use Rattle.spec_machine.specs.Program.{Program}
 use Rattle.spec_machine.specs.Machine as machine
-use Rattle.spec_machine.specs.Machine.{calm, State, main, exec, running, entered, call-main}
+use Rattle.spec_machine.specs.Machine.{emptyEnv, State, main, exec, running, entered, call-main}
 use Rattle.spec_machine.specs.Run.{runOf}
 use Rattle.spec_machine.specs.Fit.{Fit}
 use Rattle.spec_machine.specs.File.{funOf, programOf}
@@ -27,10 +27,10 @@ use Rattle.spec_image.proofs.Heads.{Resting, clear-rest}
 use Rattle.state_words.specs.declared.Control.the-variants.{Exec}
 use Rattle.spec_image.specs.Decode.{refOf}
 use Rattle.state_words.specs.Meaning.{controlIs}
-use Rattle.run_rules.specs.Comes.{Tells, Cleared}
+use Rattle.run_rules.specs.StepsTo.{Describes, Cleared}
 use Rattle.records.specs.Starts.{Starts}
 use Rattle.run_rules.proofs.Entries.{entered-none}
-use Rattle.run_step.specs.Done.{Stands}
+use Rattle.run_step.specs.StepsBy.{AtFitState}
 use Rattle.run_loop.specs.declared.Outcome.{Outcome}
 use Rattle.run_loop.specs.declared.Outcome.the-variants.{Spent}
 use Rattle.run_loop.specs.Runs.{outcomeOf, Ends}
@@ -44,7 +44,7 @@ pub two-set : (l : List ℕ) → length (set (set l 0 0) 1 0) ≡ length l
 two-set l = simp length-set
 
 -- with no allowance
-pub main-spent : (P : Program) (n : ℕ) (l R : List ℕ) → n ≡ 0 → l ≡ image (main calm) ++ R → Ends 0 (runOf P n (main calm)) Spent 0 l R
+pub main-spent : (P : Program) (n : ℕ) (l R : List ℕ) → n ≡ 0 → l ≡ image (main emptyEnv) ++ R → Ends 0 (runOf P n (main emptyEnv)) Spent 0 l R
 unfolding runOf outcomeOf
 main-spent P n l R z e = rw z (record { outcome-is = refl; steps-are = refl; held = e })
 
@@ -60,27 +60,27 @@ module _ (s : List ℕ) (passed : checkOf s ≡ accepted) where
   main-params = sym (types-length (types.varType s 0 (partOf s 0) (countOf s 0)) (paramsOf s 0) 0) ∙ ap length (accepted-program s passed .main-takes)
 
   abbrev entry : State
-  entry = running (exec (funOf s 0 .body)) calm 0 (entered (funOf s 0) []) [] []
+  entry = running (exec (funOf s 0 .body)) emptyEnv 0 (entered (funOf s 0) []) [] []
 
   entry-fit : ((i : ℕ) → getD s i 0 < 256) → Fit (programOf s) entry
   unfolding programOf
-  entry-fit bytes = stays-fit s bytes passed start-fit (call-main {α = calm}) (omega arith, omega arith)
+  entry-fit bytes = stays-fit s bytes passed start-fit (call-main {α = emptyEnv}) (omega arith, omega arith)
 
   module _ (b : ℕ) (body : refOf b ≡ funOf s 0 .body) (c : ℕ) (vars : c ≡ varsOf s 0) where
-    entry-is : running (controlIs (Exec b)) calm 0 (replicate c nothing) [] [] ≡ entry
+    entry-is : running (controlIs (Exec b)) emptyEnv 0 (replicate c nothing) [] [] ≡ entry
     unfolding controlIs
     entry-is = rw (body, vars, entered-none s 0 main-params)
 
-    pub begun-fit : ((i : ℕ) → getD s i 0 < 256) → Fit (programOf s) (running (controlIs (Exec b)) calm 0 (replicate c nothing) [] [])
+    pub begun-fit : ((i : ℕ) → getD s i 0 < 256) → Fit (programOf s) (running (controlIs (Exec b)) emptyEnv 0 (replicate c nothing) [] [])
     begun-fit bytes = rw entry-is (entry-fit bytes)
 
-    pub begun-tells : (st n : ℕ) → st ≡ 12 * startOf s 0 → n ≡ countOf s 0 → Tells s (record { function = 0; start = st; count = n; callers = 0; frames = 0; under = 0 }) 0 [] []
+    pub begun-tells : (st n : ℕ) → st ≡ 12 * startOf s 0 → n ≡ countOf s 0 → Describes s (record { function = 0; start = st; count = n; callers = 0; frames = 0; under = 0 }) 0 [] []
     unfolding savedFrames
     begun-tells st n hs hn = record { function = refl; start = hs; count = hn; callers = refl; frames = refl; under = refl }
 
     pub begun-stands : (bytes : (i : ℕ) → getD s i 0 < 256) (table : List ℕ) (st n : ℕ) (l R : List ℕ) → Starts s table → st ≡ 12 * startOf s 0 → n ≡ countOf s 0
         → l ≡ core 0 (replicate c nothing) [] [] ++ R
-        → Stands s table (controlIs (Exec b)) (record { function = 0; start = st; count = n; callers = 0; frames = 0; under = 0 }) l
+        → AtFitState s table (controlIs (Exec b)) (record { function = 0; start = st; count = n; callers = 0; frames = 0; under = 0 }) l
     begun-stands bytes table st n l R h hs hn e =
         record {
           passed = passed;
@@ -95,7 +95,7 @@ module _ (s : List ℕ) (passed : checkOf s ≡ accepted) where
         }
 
     pub begun-ends : (n : ℕ) (o : Outcome) (st : ℕ) (l R : List ℕ) → 0 < n
-        → Ends 1 (runOf (programOf s) (n - 1) (running (controlIs (Exec b)) calm 0 (replicate c nothing) [] [])) o st l R → Ends 0 (runOf (programOf s) n (main calm)) o st l R
+        → Ends 1 (runOf (programOf s) (n - 1) (running (controlIs (Exec b)) emptyEnv 0 (replicate c nothing) [] [])) o st l R → Ends 0 (runOf (programOf s) n (main emptyEnv)) o st l R
     unfolding programOf
     begun-ends n o st l R p q =
-        rw (sub-zero n) at (ends-step (programOf s) n 0 (main calm) entry machine.Rule.call-none p refl refl (rw entry-is at q))
+        rw (sub-zero n) at (ends-step (programOf s) n 0 (main emptyEnv) entry machine.Rule.call-none p refl refl (rw entry-is at q))

@@ -5,7 +5,7 @@ use Prim.Native.Nat.{ℕ, _+_}
 use Rattle.arith.specs.Int.{int}
 use Rattle.spec_language.specs.Check.{accepted, checkOf}
 use Rattle.spec_machine.specs.Values as values
-use Rattle.spec_machine.specs.Machine.{arith, abort, Frame, Control, Saved, calm, State, main, running}
+use Rattle.spec_machine.specs.Machine.{arith, abort, Frame, Control, Saved, emptyEnv, State, main, running}
 use Rattle.spec_machine.specs.Run as run
 use Rattle.spec_machine.specs.Run.{Ran, raised}
 use Rattle.spec_machine.specs.Fit.{Fit}
@@ -24,7 +24,7 @@ outcomeOf run.Spent = Spent
 outcomeOf run.Full = Full
 
 -- the file is accepted, and the memory holds the image of a fit state
-pub record Held (s l : List ℕ) : Type 0 where
+pub record HoldsFit (s l : List ℕ) : Type 0 where
   pub passed : checkOf s ≡ accepted
   pub state : State
   pub rest : List ℕ
@@ -32,12 +32,12 @@ pub record Held (s l : List ℕ) : Type 0 where
   pub fit : Fit (programOf s) state
 
 -- the same of main() with nothing waiting, and of a running state
-pub record Begins (s l : List ℕ) : Type 0 where
+pub record AtMain (s l : List ℕ) : Type 0 where
   pub passed : checkOf s ≡ accepted
   pub rest : List ℕ
-  pub held : l ≡ image (main calm) ++ rest
+  pub held : l ≡ image (main emptyEnv) ++ rest
 
-pub record Proceeds (s l : List ℕ) : Type 0 where
+pub record AtRunning (s l : List ℕ) : Type 0 where
   pub passed : checkOf s ≡ accepted
   pub control : Control
   pub function : ℕ
@@ -45,8 +45,8 @@ pub record Proceeds (s l : List ℕ) : Type 0 where
   pub frames : List Frame
   pub callers : List Saved
   pub rest : List ℕ
-  pub held : l ≡ image (running control calm function variables frames callers) ++ rest
-  pub fit : Fit (programOf s) (running control calm function variables frames callers)
+  pub held : l ≡ image (running control emptyEnv function variables frames callers) ++ rest
+  pub fit : Fit (programOf s) (running control emptyEnv function variables frames callers)
 
 -- outcome, steps and memory of a run, after k steps before it
 pub record Ends (k : ℕ) (q : Ran) (outcome : Outcome) (steps : ℕ) (m R : List ℕ) : Type 0 where

@@ -4,7 +4,7 @@ use records::count_of;
 use records::starts::starts_of;
 use records::vars_of;
 use records::wide;
-use run_rules::Head;
+use run_rules::Registers;
 use run_rules::Stepped;
 use state_words::Control;
 ghost use mathlib.Core.Path.{_≡_};
@@ -14,16 +14,16 @@ ghost use lib.ListN.{length};
 ghost use Rattle.spec_machine.specs.Values as values;
 ghost use Rattle.spec_machine.specs.Program.{Program};
 ghost use Rattle.spec_machine.specs.Machine as machine;
-ghost use Rattle.spec_machine.specs.Machine.{calm, Frame, Saved, State, running};
+ghost use Rattle.spec_machine.specs.Machine.{emptyEnv, Frame, Saved, State, running};
 ghost use Rattle.spec_machine.specs.Run.{runOf};
 ghost use Rattle.spec_machine.specs.Fit.{Fit};
 ghost use Rattle.spec_machine.specs.File.{programOf};
 ghost use Rattle.spec_image.specs.Image.{image};
 ghost use Rattle.spec_image.specs.Core.{core};
 ghost use Rattle.state_words.specs.Meaning.{controlIs};
-ghost use Rattle.run_rules.specs.Comes.{Tells, Bounds, Cleared};
-ghost use Rattle.run_step.specs.Done.{Stands};
-ghost use Rattle.run_loop.specs.Runs.{Held, Begins, Proceeds, Ends, Rests};
+ghost use Rattle.run_rules.specs.StepsTo.{Describes, Bounds, Cleared};
+ghost use Rattle.run_step.specs.StepsBy.{AtFitState};
+ghost use Rattle.run_loop.specs.Runs.{HoldsFit, AtMain, AtRunning, Ends, Rests};
 
 // How a run ended.
 pub enum Outcome {
@@ -41,9 +41,9 @@ pub struct Ran {
 }
 
 // Puts the head of a running state back.
-fn put_back(m: &mut [u32], c: Control, h: Head)
+fn put_back(m: &mut [u32], c: Control, h: Registers)
     requires { ⌜ Bounds h (now m) ⌝ }
-    ensures { λ _. ⌜ ((s : List ℕ) (f : ℕ) (η : List values.Value) (K : List Frame) (A : List Saved) (R : List ℕ) → now (m .entry) ≡ core f η K A ++ R → Tells s h f K A → now (m .exit) ≡ image (running (controlIs c) calm f η K A) ++ R) ⌝ }
+    ensures { λ _. ⌜ ((s : List ℕ) (f : ℕ) (η : List values.Value) (K : List Frame) (A : List Saved) (R : List ℕ) → now (m .entry) ≡ core f η K A ++ R → Describes s h f K A → now (m .exit) ≡ image (running (controlIs c) emptyEnv f η K A) ++ R) ⌝ }
 {
     let a = h.callers;
     let callers = h.callers as u32;
@@ -76,7 +76,7 @@ fn put_rest(m: &mut [u32], tag: u32, word: u32)
 // The end of a run that main has returned an int to, after so many steps.
 fn finish(m: &mut [u32], word: u32, steps: u64, allowed: u64) -> Ran
     requires { ⌜ (16384 ≤ length (now m)) × (steps ≤ allowed) ⌝ }
-    ensures { λ r. ⌜ ((P : Program) (R : List ℕ) → Cleared (now (m .entry)) R → Ends steps (runOf P (allowed - steps) (machine.returned calm word)) (r .outcome) (r .steps) (now (m .exit)) R) ⌝ }
+    ensures { λ r. ⌜ ((P : Program) (R : List ℕ) → Cleared (now (m .entry)) R → Ends steps (runOf P (allowed - steps) (machine.returned emptyEnv word)) (r .outcome) (r .steps) (now (m .exit)) R) ⌝ }
 {
     if steps < allowed {
         put_rest(m, 4, word);
@@ -102,9 +102,9 @@ fn fail(m: &mut [u32], tag: u32, outcome: Outcome, steps: u64) -> Ran
 }
 
 // The end of a run that stops at a running state.
-fn stop(m: &mut [u32], c: Control, h: Head, outcome: Outcome, steps: u64) -> Ran
+fn stop(m: &mut [u32], c: Control, h: Registers, outcome: Outcome, steps: u64) -> Ran
     requires { ⌜ Bounds h (now m) ⌝ }
-    ensures { λ r. ⌜ (r .outcome ≡ outcome) × (r .steps ≡ steps) × ((s : List ℕ) (f : ℕ) (η : List values.Value) (K : List Frame) (A : List Saved) (R : List ℕ) → now (m .entry) ≡ core f η K A ++ R → Tells s h f K A → now (m .exit) ≡ image (running (controlIs c) calm f η K A) ++ R) ⌝ }
+    ensures { λ r. ⌜ (r .outcome ≡ outcome) × (r .steps ≡ steps) × ((s : List ℕ) (f : ℕ) (η : List values.Value) (K : List Frame) (A : List Saved) (R : List ℕ) → now (m .entry) ≡ core f η K A ++ R → Describes s h f K A → now (m .exit) ≡ image (running (controlIs c) emptyEnv f η K A) ++ R) ⌝ }
 {
     put_back(m, c, h);
     Ran { outcome, steps }
@@ -116,12 +116,12 @@ fn go(
     starts: &[usize; 128],
     m: &mut [u32],
     from: Control,
-    head: Head,
+    head: Registers,
     taken: u64,
     allowed: u64,
 ) -> Ran
-    requires { ⌜ Stands (now file) (now starts) (controlIs from) head (now m) × (16384 ≤ length (now m)) × (taken ≤ allowed) ⌝ }
-    ensures { λ r. ⌜ ((f : ℕ) (η : List values.Value) (K : List Frame) (A : List Saved) (R : List ℕ) → now (m .entry) ≡ core f η K A ++ R → Tells (now (file .entry)) head f K A → Fit (programOf (now (file .entry))) (running (controlIs from) calm f η K A) → Ends taken (runOf (programOf (now (file .entry))) (allowed - taken) (running (controlIs from) calm f η K A)) (r .outcome) (r .steps) (now (m .exit)) R) ⌝ }
+    requires { ⌜ AtFitState (now file) (now starts) (controlIs from) head (now m) × (16384 ≤ length (now m)) × (taken ≤ allowed) ⌝ }
+    ensures { λ r. ⌜ ((f : ℕ) (η : List values.Value) (K : List Frame) (A : List Saved) (R : List ℕ) → now (m .entry) ≡ core f η K A ++ R → Describes (now (file .entry)) head f K A → Fit (programOf (now (file .entry))) (running (controlIs from) emptyEnv f η K A) → Ends taken (runOf (programOf (now (file .entry))) (allowed - taken) (running (controlIs from) emptyEnv f η K A)) (r .outcome) (r .steps) (now (m .exit)) R) ⌝ }
 {
     let mut c = from;
     let mut h = head;
@@ -145,7 +145,7 @@ fn go(
 // A run from the int that main has returned.
 fn conclude(m: &mut [u32], word: u32, allowed: u64) -> Ran
     requires { ⌜ 16384 ≤ length (now m) ⌝ }
-    ensures { λ r. ⌜ ((P : Program) (R : List ℕ) → now (m .entry) ≡ image (machine.returned calm word) ++ R → Ends 0 (runOf P allowed (machine.returned calm word)) (r .outcome) (r .steps) (now (m .exit)) R) ⌝ }
+    ensures { λ r. ⌜ ((P : Program) (R : List ℕ) → now (m .entry) ≡ image (machine.returned emptyEnv word) ++ R → Ends 0 (runOf P allowed (machine.returned emptyEnv word)) (r .outcome) (r .steps) (now (m .exit)) R) ⌝ }
 {
     m[0] = 0;
     m[1] = 0;
@@ -154,8 +154,8 @@ fn conclude(m: &mut [u32], word: u32, allowed: u64) -> Ran
 
 // A run from main() with nothing waiting.
 fn begin(file: &[u8], m: &mut [u32], allowed: u64) -> Ran
-    requires { ⌜ Begins (now file) (now m) × (16384 ≤ length (now m)) ⌝ }
-    ensures { λ r. ⌜ ((R : List ℕ) → now (m .entry) ≡ image (machine.main calm) ++ R → Ends 0 (runOf (programOf (now (file .entry))) allowed (machine.main calm)) (r .outcome) (r .steps) (now (m .exit)) R) ⌝ }
+    requires { ⌜ AtMain (now file) (now m) × (16384 ≤ length (now m)) ⌝ }
+    ensures { λ r. ⌜ ((R : List ℕ) → now (m .entry) ≡ image (machine.main emptyEnv) ++ R → Ends 0 (runOf (programOf (now (file .entry))) allowed (machine.main emptyEnv)) (r .outcome) (r .steps) (now (m .exit)) R) ⌝ }
 {
     if allowed == 0 {
         return Ran {
@@ -170,7 +170,7 @@ fn begin(file: &[u8], m: &mut [u32], allowed: u64) -> Ran
     m[1] = 0;
     state_stack::head::enter_main(m, 0, wide(vars_of(file, 0)));
     let c = Control::Exec(run_rules::calling::body_of(file, start, count));
-    let h = Head {
+    let h = Registers {
         function: 0,
         start,
         count,
@@ -183,8 +183,8 @@ fn begin(file: &[u8], m: &mut [u32], allowed: u64) -> Ran
 
 // A run from a running state: its head is taken out of the memory.
 fn proceed(file: &[u8], m: &mut [u32], allowed: u64) -> Ran
-    requires { ⌜ Proceeds (now file) (now m) × (16384 ≤ length (now m)) ⌝ }
-    ensures { λ r. ⌜ ((c : machine.Control) (f : ℕ) (η : List values.Value) (K : List Frame) (A : List Saved) (R : List ℕ) → now (m .entry) ≡ image (running c calm f η K A) ++ R → Fit (programOf (now (file .entry))) (running c calm f η K A) → Ends 0 (runOf (programOf (now (file .entry))) allowed (running c calm f η K A)) (r .outcome) (r .steps) (now (m .exit)) R) ⌝ }
+    requires { ⌜ AtRunning (now file) (now m) × (16384 ≤ length (now m)) ⌝ }
+    ensures { λ r. ⌜ ((c : machine.Control) (f : ℕ) (η : List values.Value) (K : List Frame) (A : List Saved) (R : List ℕ) → now (m .entry) ≡ image (running c emptyEnv f η K A) ++ R → Fit (programOf (now (file .entry))) (running c emptyEnv f η K A) → Ends 0 (runOf (programOf (now (file .entry))) allowed (running c emptyEnv f η K A)) (r .outcome) (r .steps) (now (m .exit)) R) ⌝ }
 {
     let starts = starts_of(file);
     let callers = m[2] as usize - 1;
@@ -192,7 +192,7 @@ fn proceed(file: &[u8], m: &mut [u32], allowed: u64) -> Ran
     let function = state_words::activations::activation_word(m, callers, 0) as usize;
     let frames = state_words::activations::activation_word(m, callers, 1) as usize;
     let total = state_words::activations::frames_held(m, callers + 1);
-    let h = Head {
+    let h = Registers {
         function,
         start: starts[function],
         count: count_of(file, function),
@@ -206,7 +206,7 @@ fn proceed(file: &[u8], m: &mut [u32], allowed: u64) -> Ran
 
 // Runs the state in the memory, up to so many rules.
 pub fn run(file: &[u8], m: &mut [u32], allowed: u64) -> Ran
-    requires { ⌜ Held (now file) (now m) × (16384 ≤ length (now m)) ⌝ }
+    requires { ⌜ HoldsFit (now file) (now m) × (16384 ≤ length (now m)) ⌝ }
     ensures { λ r. ⌜ ((s : State) (R : List ℕ) → now (m .entry) ≡ image s ++ R → Fit (programOf (now (file .entry))) s → Ends 0 (runOf (programOf (now (file .entry))) allowed s) (r .outcome) (r .steps) (now (m .exit)) R) ⌝ }
 {
     let tag = m[0];

@@ -8,7 +8,7 @@ use Rattle.records.specs.Fields.{paramsOf, varsOf, countOf}
 use Rattle.records.specs.Parts.{startOf, partOf}
 use Rattle.spec_language.specs.Types as types
 use Rattle.spec_machine.specs.Values.{Value, nothing}
-use Rattle.spec_machine.specs.Machine.{Frame, Control, Saved, saved, calm, running, entered, blank}
+use Rattle.spec_machine.specs.Machine.{Frame, Control, Saved, saved, emptyEnv, running, entered, blank}
 use Rattle.spec_machine.specs.File.{funOf}
 use Rattle.spec_machine.proofs.Operands.{types-length}
 use Rattle.spec_image.specs.Image.{savedFrames}
@@ -16,9 +16,9 @@ use Rattle.spec_image.specs.Core.{core}
 use Rattle.spec_image.proofs.Calls.{blank-is}
 use Rattle.state_words.specs.declared.Control as code
 use Rattle.state_words.specs.Meaning.{controlIs}
-use Rattle.run_rules.specs.declared.Head.{Head}
+use Rattle.run_rules.specs.declared.Registers.{Registers}
 use Rattle.run_rules.specs.declared.Stepped.the-variants.{Went, Full}
-use Rattle.run_rules.specs.Comes.{Tells, Comes}
+use Rattle.run_rules.specs.StepsTo.{Describes, StepsTo}
 use Rattle.run_rules.proofs.Steps.{on, callers-over}
 
 -- the variables that are no parameters
@@ -40,14 +40,14 @@ entered-some s g y vs e = ap (λ (l : List Value). vs ++ l) (sym (locals-blank s
 -- the head of the function entered
 pub entered-tells : (s : List ℕ) (f : ℕ) (η : List Value) (K : List Frame) (A : List Saved) (g st n a u : ℕ)
     → st ≡ 12 * startOf s g → n ≡ countOf s g → a ≡ suc (length A) → u ≡ length (K ++ savedFrames A)
-    → Tells s (record { function = g; start = st; count = n; callers = a; frames = 0; under = u }) g [] (saved f η K ∷ A)
+    → Describes s (record { function = g; start = st; count = n; callers = a; frames = 0; under = u }) g [] (saved f η K ∷ A)
 unfolding savedFrames
 entered-tells s f η K A g st n a u hs hn ha hu = record { function = refl; start = hs; count = hn; callers = ha; frames = refl; under = hu }
 
 -- the head of the function left for
-pub left-tells : (s : List ℕ) (h : Head) (f : ℕ) (J : List Frame) (g : ℕ) (θ : List Value) (L : List Frame) (A : List Saved) (r st n a k u : ℕ)
-    → Tells s h f J (saved g θ L ∷ A) → r ≡ g → st ≡ 12 * startOf s g → n ≡ countOf s g → a + 1 ≡ h .callers → k ≡ length L → u ≡ h .under - k
-    → Tells s (record { function = r; start = st; count = n; callers = a; frames = k; under = u }) g L A
+pub left-tells : (s : List ℕ) (h : Registers) (f : ℕ) (J : List Frame) (g : ℕ) (θ : List Value) (L : List Frame) (A : List Saved) (r st n a k u : ℕ)
+    → Describes s h f J (saved g θ L ∷ A) → r ≡ g → st ≡ 12 * startOf s g → n ≡ countOf s g → a + 1 ≡ h .callers → k ≡ length L → u ≡ h .under - k
+    → Describes s (record { function = r; start = st; count = n; callers = a; frames = k; under = u }) g L A
 unfolding savedFrames
 left-tells s h f J g θ L A r st n a k u t hr hs hn ha hk hu =
     record {
@@ -60,19 +60,19 @@ left-tells s h f J g θ L A r st n a k u t hr hs hn ha hk hu =
     }
 
 -- a step within the limits, by its control and its variables
-pub on-is : (s : List ℕ) (c : code.Control) (h : Head) (l m R : List ℕ) (k : Control) (f : ℕ) (η θ : List Value) (K : List Frame) (A : List Saved)
-    → controlIs c ≡ k → θ ≡ η → m ≡ core f θ K A ++ R → Tells s h f K A → h .callers < 32 → h .under + h .frames ≤ 512
-    → Comes s (Went c h) l m R (running k calm f η K A)
+pub on-is : (s : List ℕ) (c : code.Control) (h : Registers) (l m R : List ℕ) (k : Control) (f : ℕ) (η θ : List Value) (K : List Frame) (A : List Saved)
+    → controlIs c ≡ k → θ ≡ η → m ≡ core f θ K A ++ R → Describes s h f K A → h .callers < 32 → h .under + h .frames ≤ 512
+    → StepsTo s (Went c h) l m R (running k emptyEnv f η K A)
 on-is s c h l m R k f η θ K A q v e t a n = rw (← q, ← v) (on s c h l m R f θ K A e t a n)
 
 -- no function is entered past the limit
-pub entered-full : (s : List ℕ) (k : Control) (h : Head) (l R : List ℕ) (f g : ℕ) (η θ : List Value) (J K : List Frame) (A : List Saved)
-    → Tells s h f J A → 31 ≤ h .callers → Comes s Full l l R (running k calm g θ [] (saved f η K ∷ A))
-unfolding Comes
-entered-full s k h l R f g η θ J K A t a = (callers-over k calm g θ [] (saved f η K ∷ A) (omega (arith, t .callers)), refl)
+pub entered-full : (s : List ℕ) (k : Control) (h : Registers) (l R : List ℕ) (f g : ℕ) (η θ : List Value) (J K : List Frame) (A : List Saved)
+    → Describes s h f J A → 31 ≤ h .callers → StepsTo s Full l l R (running k emptyEnv g θ [] (saved f η K ∷ A))
+unfolding StepsTo
+entered-full s k h l R f g η θ J K A t a = (callers-over k emptyEnv g θ [] (saved f η K ∷ A) (omega (arith, t .callers)), refl)
 
 -- the callers and the frames of the caller
-module _ {s : List ℕ} {h : Head} {f : ℕ} {J : List Frame} {g : ℕ} {θ : List Value} {L : List Frame} {A : List Saved} (t : Tells s h f J (saved g θ L ∷ A)) where
+module _ {s : List ℕ} {h : Registers} {f : ℕ} {J : List Frame} {g : ℕ} {θ : List Value} {L : List Frame} {A : List Saved} (t : Describes s h f J (saved g θ L ∷ A)) where
   pub left-callers : (a : ℕ) → a + 1 ≡ h .callers → a ≡ length A
   left-callers a e = omega (arith, t .callers)
 

@@ -7,7 +7,7 @@ use lib.Dec.{eqb}
 use lib.ListN.{getD}
 use Rattle.records.specs.Fields.{countOf, kindAt, bAt}
 use Rattle.records.specs.Parts.{startOf, partOf}
-use Rattle.records.proofs.Parts.{part-byte}
+use Rattle.records.proofs.PartWalks.{part-byte}
 use Rattle.spec_machine.specs.Values.{nothing, int, truth}
 use Rattle.spec_machine.specs.Program.{const}
 use Rattle.spec_machine.specs.Machine.{eval, reachL}

@@ -1,5 +1,5 @@
 // Functions entered and left in lent memory, and main's return.
-use crate::Head;
+use crate::Registers;
 use crate::Stepped;
 use records::count_of;
 use records::vars_of;
@@ -14,14 +14,14 @@ ghost use Rattle.records.specs.Fields.{functions, paramsOf, varsOf, countOf};
 ghost use Rattle.records.specs.Parts.{startOf};
 ghost use Rattle.spec_machine.specs.Values as values;
 ghost use Rattle.spec_machine.specs.Program as program;
-ghost use Rattle.spec_machine.specs.Machine.{calm, Frame, gather, Saved, saved, running, entered};
+ghost use Rattle.spec_machine.specs.Machine.{emptyEnv, Frame, gather, Saved, saved, running, entered};
 ghost use Rattle.spec_machine.specs.Machine as machine;
 ghost use Rattle.spec_machine.specs.File.{funOf};
 ghost use Rattle.spec_image.specs.Image.{savedFrames};
 ghost use Rattle.spec_image.specs.Core.{core};
 ghost use Rattle.state_words.specs.Meaning.{valueIs};
 ghost use Rattle.spec_image.specs.Decode.{refOf};
-ghost use Rattle.run_rules.specs.Comes.{Tells, Bounds, Called, Cleared, Comes};
+ghost use Rattle.run_rules.specs.StepsTo.{Describes, Bounds, Called, Cleared, StepsTo};
 ghost use Rattle.records.specs.Starts.{Starts};
 
 // The word of the body of the function whose part has its first byte at `start`.
@@ -35,9 +35,15 @@ pub fn body_of(file: &[u8], start: usize, count: usize) -> u32
 }
 
 // Enters function g without arguments.
-pub fn enter_none(file: &[u8], starts: &[usize; 128], m: &mut [u32], h: Head, g: u32) -> Stepped
+pub fn enter_none(
+    file: &[u8],
+    starts: &[usize; 128],
+    m: &mut [u32],
+    h: Registers,
+    g: u32,
+) -> Stepped
     requires { ⌜ Bounds h (now m) × Starts (now file) (now starts) × (g < functions (now file)) ⌝ }
-    ensures { λ r. ⌜ ((f : ℕ) (η : List values.Value) (K : List Frame) (A : List Saved) (R : List ℕ) → now (m .entry) ≡ core f η K A ++ R → Tells (now (file .entry)) h f K A → paramsOf (now (file .entry)) g ≡ 0 → Comes (now (file .entry)) r (now (m .entry)) (now (m .exit)) R (running (machine.exec (funOf (now (file .entry)) g .body)) calm g (entered (funOf (now (file .entry)) g) []) [] (saved f η K ∷ A))) ⌝ }
+    ensures { λ r. ⌜ ((f : ℕ) (η : List values.Value) (K : List Frame) (A : List Saved) (R : List ℕ) → now (m .entry) ≡ core f η K A ++ R → Describes (now (file .entry)) h f K A → paramsOf (now (file .entry)) g ≡ 0 → StepsTo (now (file .entry)) r (now (m .entry)) (now (m .exit)) R (running (machine.exec (funOf (now (file .entry)) g .body)) emptyEnv g (entered (funOf (now (file .entry)) g) []) [] (saved f η K ∷ A))) ⌝ }
 {
     if 31 <= h.callers {
         return Stepped::Full;
@@ -54,7 +60,7 @@ pub fn enter_none(file: &[u8], starts: &[usize; 128], m: &mut [u32], h: Head, g:
     );
     Stepped::Went(
         Control::Exec(body_of(file, start, count)),
-        Head {
+        Registers {
             function,
             start,
             count,
@@ -70,13 +76,13 @@ pub fn enter(
     file: &[u8],
     starts: &[usize; 128],
     m: &mut [u32],
-    h: Head,
+    h: Registers,
     g: u32,
     y: usize,
     v: Value,
 ) -> Stepped
     requires { ⌜ Bounds h (now m) × (1 ≤ h .frames) × Starts (now file) (now starts) × (g < functions (now file)) × (y ≤ 7) ⌝ }
-    ensures { λ r. ⌜ ((f : ℕ) (η : List values.Value) (k : program.Head) (vs : List values.Value) (K : List Frame) (A : List Saved) (R : List ℕ) → now (m .entry) ≡ core f η (machine.gather k vs [] ∷ K) A ++ R → Tells (now (file .entry)) h f (machine.gather k vs [] ∷ K) A → y ≡ length vs → paramsOf (now (file .entry)) g ≡ suc y → suc y ≤ varsOf (now (file .entry)) g → Comes (now (file .entry)) r (now (m .entry)) (now (m .exit)) R (running (machine.exec (funOf (now (file .entry)) g .body)) calm g (entered (funOf (now (file .entry)) g) (vs ++ (valueIs v ∷ []))) [] (saved f η K ∷ A))) ⌝ }
+    ensures { λ r. ⌜ ((f : ℕ) (η : List values.Value) (k : program.Operation) (vs : List values.Value) (K : List Frame) (A : List Saved) (R : List ℕ) → now (m .entry) ≡ core f η (machine.gather k vs [] ∷ K) A ++ R → Describes (now (file .entry)) h f (machine.gather k vs [] ∷ K) A → y ≡ length vs → paramsOf (now (file .entry)) g ≡ suc y → suc y ≤ varsOf (now (file .entry)) g → StepsTo (now (file .entry)) r (now (m .entry)) (now (m .exit)) R (running (machine.exec (funOf (now (file .entry)) g .body)) emptyEnv g (entered (funOf (now (file .entry)) g) (vs ++ (valueIs v ∷ []))) [] (saved f η K ∷ A))) ⌝ }
 {
     if 31 <= h.callers {
         return Stepped::Full;
@@ -97,7 +103,7 @@ pub fn enter(
     );
     Stepped::Went(
         Control::Exec(body_of(file, start, count)),
-        Head {
+        Registers {
             function,
             start,
             count,
@@ -109,10 +115,10 @@ pub fn enter(
 }
 
 // Leaves a function that a function of the file has called, with a value.
-pub fn leave(file: &[u8], starts: &[usize; 128], m: &mut [u32], h: Head, v: Value) -> Stepped
+pub fn leave(file: &[u8], starts: &[usize; 128], m: &mut [u32], h: Registers, v: Value) -> Stepped
     requires { ⌜ Bounds h (now m) × (1 ≤ h .callers) × Starts (now file) (now starts) ⌝ }
     requires caller { ⌜ Called (now file) h (now m) ⌝ }
-    ensures { λ r. ⌜ ((f : ℕ) (η : List values.Value) (J : List Frame) (g : ℕ) (θ : List values.Value) (L : List Frame) (A : List Saved) (R : List ℕ) → now (m .entry) ≡ core f η J (saved g θ L ∷ A) ++ R → Tells (now (file .entry)) h f J (saved g θ L ∷ A) → Comes (now (file .entry)) r (now (m .entry)) (now (m .exit)) R (running (machine.val (valueIs v)) calm g θ L A)) ⌝ }
+    ensures { λ r. ⌜ ((f : ℕ) (η : List values.Value) (J : List Frame) (g : ℕ) (θ : List values.Value) (L : List Frame) (A : List Saved) (R : List ℕ) → now (m .entry) ≡ core f η J (saved g θ L ∷ A) ++ R → Describes (now (file .entry)) h f J (saved g θ L ∷ A) → StepsTo (now (file .entry)) r (now (m .entry)) (now (m .exit)) R (running (machine.val (valueIs v)) emptyEnv g θ L A)) ⌝ }
 {
     let c = state_words::at_hand(v);
     let callers = h.callers - 1;
@@ -121,7 +127,7 @@ pub fn leave(file: &[u8], starts: &[usize; 128], m: &mut [u32], h: Head, v: Valu
     state_stack::activations::leave(m, h.under, callers, h.frames);
     Stepped::Went(
         c,
-        Head {
+        Registers {
             function,
             start: starts[function],
             count: count_of(file, function),
@@ -133,9 +139,9 @@ pub fn leave(file: &[u8], starts: &[usize; 128], m: &mut [u32], h: Head, v: Valu
 }
 
 // Leaves main with an int.
-pub fn leave_main(m: &mut [u32], h: Head, word: u32) -> Stepped
+pub fn leave_main(m: &mut [u32], h: Registers, word: u32) -> Stepped
     requires { ⌜ Bounds h (now m) ⌝ }
-    ensures { λ r. ⌜ ((s : List ℕ) (f : ℕ) (η : List values.Value) (J : List Frame) (R : List ℕ) → now (m .entry) ≡ core f η J [] ++ R → Tells s h f J [] → Comes s r (now (m .entry)) (now (m .exit)) R (machine.returned calm word)) ⌝ }
+    ensures { λ r. ⌜ ((s : List ℕ) (f : ℕ) (η : List values.Value) (J : List Frame) (R : List ℕ) → now (m .entry) ≡ core f η J [] ++ R → Describes s h f J [] → StepsTo s r (now (m .entry)) (now (m .exit)) R (machine.returned emptyEnv word)) ⌝ }
 {
     state_stack::head::leave_main(m, h.frames);
     Stepped::Returned(word)

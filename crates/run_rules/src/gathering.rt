@@ -1,5 +1,5 @@
 // A node reached, and a node whose operands are gathered: a value at hand, or a frame with the operands that wait.
-use crate::Head;
+use crate::Registers;
 use crate::Stepped;
 use records::nodes::b_at;
 use records::nodes::kind_at;
@@ -12,13 +12,13 @@ ghost use Rattle.records.specs.Fields.{sizeAt};
 ghost use Rattle.records.specs.Children.{walk};
 ghost use Rattle.spec_machine.specs.Values as values;
 ghost use Rattle.spec_machine.specs.Program as program;
-ghost use Rattle.spec_machine.specs.Machine.{calm, Frame, gather, Saved, running, reachL};
+ghost use Rattle.spec_machine.specs.Machine.{emptyEnv, Frame, gather, Saved, running, reachL};
 ghost use Rattle.spec_machine.specs.Machine as machine;
 ghost use Rattle.spec_machine.specs.File.{backwards, lookAt};
 ghost use Rattle.spec_image.specs.Layout.{filled, frameWords};
 ghost use Rattle.spec_image.specs.Core.{core};
 ghost use Rattle.state_words.specs.Meaning.{controlIs};
-ghost use Rattle.run_rules.specs.Comes.{Tells, Bounds, Comes};
+ghost use Rattle.run_rules.specs.StepsTo.{Describes, Bounds, StepsTo};
 
 // What is reached at node i: a constant's value, or the node to evaluate.
 pub fn reach(part: &[u8], i: u32) -> Control
@@ -39,14 +39,14 @@ pub fn reach(part: &[u8], i: u32) -> Control
 pub fn gather(
     part: &[u8],
     m: &mut [u32],
-    h: Head,
+    h: Registers,
     kind: u32,
     x: u32,
     k: u32,
     last: usize,
 ) -> Stepped
     requires { ⌜ Bounds h (now m) × (1 ≤ k) × (k ≤ 8) × (12 * last + 12 ≤ length (now part)) × (last < 4096) ⌝ }
-    ensures { λ r. ⌜ ((s : List ℕ) (f : ℕ) (η : List values.Value) (g : program.Head) (e : ℕ) (ns : List ℕ) (K : List Frame) (A : List Saved) (R : List ℕ) → now (m .entry) ≡ core f η K A ++ R → Tells s h f K A → ((z : ℕ) → z ≤ 7 → frameWords (machine.gather g [] (replicate z 0)) ≡ filled 20 (kind ∷ x ∷ 0 ∷ z ∷ [])) → backwards (walk (sizeAt (now (part .entry))) k last) [] ≡ e ∷ ns → Comes s r (now (m .entry)) (now (m .exit)) R (running (reachL e (lookAt (now (part .entry)) e)) calm f η (machine.gather g [] ns ∷ K) A)) ⌝ }
+    ensures { λ r. ⌜ ((s : List ℕ) (f : ℕ) (η : List values.Value) (g : program.Operation) (e : ℕ) (ns : List ℕ) (K : List Frame) (A : List Saved) (R : List ℕ) → now (m .entry) ≡ core f η K A ++ R → Describes s h f K A → ((z : ℕ) → z ≤ 7 → frameWords (machine.gather g [] (replicate z 0)) ≡ filled 20 (kind ∷ x ∷ 0 ∷ z ∷ [])) → backwards (walk (sizeAt (now (part .entry))) k last) [] ≡ e ∷ ns → StepsTo s r (now (m .entry)) (now (m .exit)) R (running (reachL e (lookAt (now (part .entry)) e)) emptyEnv f η (machine.gather g [] ns ∷ K) A)) ⌝ }
 {
     let n = h.under + h.frames;
     if 512 <= n {
@@ -55,7 +55,7 @@ pub fn gather(
     let first = state_stack::top::push_gather(m, part, n, kind, x, k, last);
     Stepped::Went(
         reach(part, first as u32),
-        Head {
+        Registers {
             function: h.function,
             start: h.start,
             count: h.count,

@@ -10,15 +10,15 @@ ghost use Prim.Native.Nat.{ℕ, suc, _+_, _≤_, _<_};
 ghost use lib.ListN.{length, set};
 ghost use Rattle.spec_machine.specs.Values as values;
 ghost use Rattle.spec_machine.specs.Program as program;
-ghost use Rattle.spec_machine.specs.Machine.{calm, Frame, gather, Saved, running};
+ghost use Rattle.spec_machine.specs.Machine.{emptyEnv, Frame, gather, Saved, running};
 ghost use Rattle.spec_machine.specs.Machine as machine;
 ghost use Rattle.spec_image.specs.Layout.{filled, frameWords};
 ghost use Rattle.spec_image.specs.Core.{core};
 ghost use Rattle.state_words.specs.Meaning.{valueIs, controlIs};
-ghost use Rattle.run_rules.specs.Comes.{Tells, Bounds, Comes};
+ghost use Rattle.run_rules.specs.StepsTo.{Describes, Bounds, StepsTo};
 
 // The current function with its part's first byte and node count, its callers, its frames, and those of its callers.
-pub struct Head {
+pub struct Registers {
     pub function: usize,
     pub start: usize,
     pub count: usize,
@@ -29,7 +29,7 @@ pub struct Head {
 
 // A step was taken; or its state would pass a limit; or the run has ended but for its last rule; or it has ended by an exception.
 pub enum Stepped {
-    Went(Control, Head),
+    Went(Control, Registers),
     Full,
     Returned(u32),
     Arith,
@@ -37,9 +37,9 @@ pub enum Stepped {
 }
 
 // Lays a frame without operands, by its kind and two words.
-pub fn lay(m: &mut [u32], h: Head, kind: u32, x: u32, y: u32, c: Control) -> Stepped
+pub fn lay(m: &mut [u32], h: Registers, kind: u32, x: u32, y: u32, c: Control) -> Stepped
     requires { ⌜ Bounds h (now m) ⌝ }
-    ensures { λ r. ⌜ ((s : List ℕ) (f : ℕ) (η : List values.Value) (fr : Frame) (K : List Frame) (A : List Saved) (R : List ℕ) → now (m .entry) ≡ core f η K A ++ R → Tells s h f K A → frameWords fr ≡ filled 20 (kind ∷ x ∷ y ∷ 0 ∷ []) → Comes s r (now (m .entry)) (now (m .exit)) R (running (controlIs c) calm f η (fr ∷ K) A)) ⌝ }
+    ensures { λ r. ⌜ ((s : List ℕ) (f : ℕ) (η : List values.Value) (fr : Frame) (K : List Frame) (A : List Saved) (R : List ℕ) → now (m .entry) ≡ core f η K A ++ R → Describes s h f K A → frameWords fr ≡ filled 20 (kind ∷ x ∷ y ∷ 0 ∷ []) → StepsTo s r (now (m .entry)) (now (m .exit)) R (running (controlIs c) emptyEnv f η (fr ∷ K) A)) ⌝ }
 {
     let n = h.under + h.frames;
     if 512 <= n {
@@ -48,7 +48,7 @@ pub fn lay(m: &mut [u32], h: Head, kind: u32, x: u32, y: u32, c: Control) -> Ste
     state_stack::push(m, n, kind, x, y, 0);
     Stepped::Went(
         c,
-        Head {
+        Registers {
             function: h.function,
             start: h.start,
             count: h.count,
@@ -60,15 +60,15 @@ pub fn lay(m: &mut [u32], h: Head, kind: u32, x: u32, y: u32, c: Control) -> Ste
 }
 
 // Takes the top frame off.
-pub fn take_off(m: &mut [u32], h: Head, c: Control) -> Stepped
+pub fn take_off(m: &mut [u32], h: Registers, c: Control) -> Stepped
     requires { ⌜ Bounds h (now m) × (1 ≤ h .frames) ⌝ }
-    ensures { λ r. ⌜ ((s : List ℕ) (f : ℕ) (η : List values.Value) (fr : Frame) (K : List Frame) (A : List Saved) (R : List ℕ) → now (m .entry) ≡ core f η (fr ∷ K) A ++ R → Tells s h f (fr ∷ K) A → Comes s r (now (m .entry)) (now (m .exit)) R (running (controlIs c) calm f η K A)) ⌝ }
+    ensures { λ r. ⌜ ((s : List ℕ) (f : ℕ) (η : List values.Value) (fr : Frame) (K : List Frame) (A : List Saved) (R : List ℕ) → now (m .entry) ≡ core f η (fr ∷ K) A ++ R → Describes s h f (fr ∷ K) A → StepsTo s r (now (m .entry)) (now (m .exit)) R (running (controlIs c) emptyEnv f η K A)) ⌝ }
 {
     let frames = h.frames - 1;
     state_stack::pop(m, h.under + frames);
     Stepped::Went(
         c,
-        Head {
+        Registers {
             function: h.function,
             start: h.start,
             count: h.count,
@@ -80,27 +80,27 @@ pub fn take_off(m: &mut [u32], h: Head, c: Control) -> Stepped
 }
 
 // Stores a value in variable x.
-pub fn put(m: &mut [u32], h: Head, x: u32, v: Value, c: Control) -> Stepped
+pub fn store_variable(m: &mut [u32], h: Registers, x: u32, v: Value, c: Control) -> Stepped
     requires { ⌜ Bounds h (now m) × (x < 64) ⌝ }
-    ensures { λ r. ⌜ ((s : List ℕ) (f : ℕ) (η : List values.Value) (K : List Frame) (A : List Saved) (R : List ℕ) → now (m .entry) ≡ core f η K A ++ R → Tells s h f K A → x < length η → length η ≤ 64 → Comes s r (now (m .entry)) (now (m .exit)) R (running (controlIs c) calm f (set η x (valueIs v)) K A)) ⌝ }
+    ensures { λ r. ⌜ ((s : List ℕ) (f : ℕ) (η : List values.Value) (K : List Frame) (A : List Saved) (R : List ℕ) → now (m .entry) ≡ core f η K A ++ R → Describes s h f K A → x < length η → length η ≤ 64 → StepsTo s r (now (m .entry)) (now (m .exit)) R (running (controlIs c) emptyEnv f (set η x (valueIs v)) K A)) ⌝ }
 {
     state_stack::set_variable(m, h.callers, x as usize, v);
     Stepped::Went(c, h)
 }
 
 // Stores a value in variable x, and takes the top frame off.
-pub fn assign(m: &mut [u32], h: Head, x: u32, v: Value) -> Stepped
+pub fn assign(m: &mut [u32], h: Registers, x: u32, v: Value) -> Stepped
     requires { ⌜ Bounds h (now m) × (1 ≤ h .frames) × (x < 64) ⌝ }
-    ensures { λ r. ⌜ ((s : List ℕ) (f : ℕ) (η : List values.Value) (fr : Frame) (K : List Frame) (A : List Saved) (R : List ℕ) → now (m .entry) ≡ core f η (fr ∷ K) A ++ R → Tells s h f (fr ∷ K) A → x < length η → length η ≤ 64 → Comes s r (now (m .entry)) (now (m .exit)) R (running (machine.exec program.Ref.nop) calm f (set η x (valueIs v)) K A)) ⌝ }
+    ensures { λ r. ⌜ ((s : List ℕ) (f : ℕ) (η : List values.Value) (fr : Frame) (K : List Frame) (A : List Saved) (R : List ℕ) → now (m .entry) ≡ core f η (fr ∷ K) A ++ R → Describes s h f (fr ∷ K) A → x < length η → length η ≤ 64 → StepsTo s r (now (m .entry)) (now (m .exit)) R (running (machine.exec program.Ref.nop) emptyEnv f (set η x (valueIs v)) K A)) ⌝ }
 {
     state_stack::set_variable(m, h.callers, x as usize, v);
     take_off(m, h, Control::Exec(0))
 }
 
 // Stores the operand that follows y values in the top frame, with z nodes waiting after it.
-pub fn supply(m: &mut [u32], h: Head, y: u32, z: u32, v: Value, c: Control) -> Stepped
+pub fn supply(m: &mut [u32], h: Registers, y: u32, z: u32, v: Value, c: Control) -> Stepped
     requires { ⌜ Bounds h (now m) × (1 ≤ h .frames) × (y < 8) ⌝ }
-    ensures { λ r. ⌜ ((s : List ℕ) (f : ℕ) (η : List values.Value) (g : program.Head) (vs : List values.Value) (e : ℕ) (ns : List ℕ) (K : List Frame) (A : List Saved) (R : List ℕ) → now (m .entry) ≡ core f η (gather g vs (e ∷ ns) ∷ K) A ++ R → Tells s h f (gather g vs (e ∷ ns) ∷ K) A → length vs + suc (length ns) ≤ 7 → y ≡ length vs → z ≡ length ns → Comes s r (now (m .entry)) (now (m .exit)) R (running (controlIs c) calm f η (gather g (vs ++ (valueIs v ∷ [])) ns ∷ K) A)) ⌝ }
+    ensures { λ r. ⌜ ((s : List ℕ) (f : ℕ) (η : List values.Value) (g : program.Operation) (vs : List values.Value) (e : ℕ) (ns : List ℕ) (K : List Frame) (A : List Saved) (R : List ℕ) → now (m .entry) ≡ core f η (gather g vs (e ∷ ns) ∷ K) A ++ R → Describes s h f (gather g vs (e ∷ ns) ∷ K) A → length vs + suc (length ns) ≤ 7 → y ≡ length vs → z ≡ length ns → StepsTo s r (now (m .entry)) (now (m .exit)) R (running (controlIs c) emptyEnv f η (gather g (vs ++ (valueIs v ∷ [])) ns ∷ K) A)) ⌝ }
 {
     let frames = h.frames - 1;
     state_stack::gain(m, h.under + frames, y, z, v);

@@ -8,7 +8,7 @@ use Rattle.records.specs.Fields.{kindAt, bAt}
 use Rattle.spec_language.specs.Flow.{returns}
 use Rattle.spec_machine.specs.Values.{Value}
 use Rattle.spec_machine.specs.Program.{Ref, node, ifOf, seqOf}
-use Rattle.spec_machine.specs.Machine.{Frame, gather, and, wait, branch, check, exec, Saved, calm, running}
+use Rattle.spec_machine.specs.Machine.{Frame, gather, and, wait, branch, check, exec, Saved, emptyEnv, running}
 use Rattle.spec_machine.specs.Next.{runs, passes}
 use Rattle.spec_machine.specs.Fit.{Fit}
 use Rattle.spec_machine.specs.File.{formAt, seeAt, stmtAt, programOf}
@@ -16,13 +16,13 @@ use Rattle.spec_image.specs.Core.{core}
 use Rattle.spec_image.specs.Decode.{refOf}
 use Rattle.spec_image.specs.Layout.{refWord}
 use Rattle.spec_image.specs.Image.{savedFrames}
-use Rattle.spec_image.proofs.Parts.{ref-back}
+use Rattle.spec_image.proofs.ValueWords.{ref-back}
 use Rattle.spec_image.proofs.Frames.{top-first}
 use Rattle.state_words.specs.Meaning.{frameAt}
-use Rattle.run_rules.specs.declared.Head.{Head}
+use Rattle.run_rules.specs.declared.Registers.{Registers}
 use Rattle.run_rules.specs.declared.Stepped.{Stepped}
-use Rattle.run_rules.specs.Comes.{Tells, Bounds, Comes}
-use Rattle.run_step.specs.Done.{Executes, Done}
+use Rattle.run_rules.specs.StepsTo.{Describes, Bounds, StepsTo}
+use Rattle.run_step.specs.StepsBy.{Executes, StepsBy}
 
 -- the word of a statement that waits in the top frame
 pub waits-word : (l : List ℕ) (n f : ℕ) (η : List Value) (r : Ref) (K : List Frame) (A : List Saved) (R : List ℕ) (w : ℕ)
@@ -37,7 +37,7 @@ pub ref-nop : (w : ℕ) → w ≡ 0 → refOf w ≡ Ref.nop
 unfolding refOf
 ref-nop w e = rw e
 
-module _ (t l : List ℕ) (h : Head) (r : Ref) (b : Bounds h l) where
+module _ (t l : List ℕ) (h : Registers) (r : Ref) (b : Bounds h l) where
   pub executes-node : {i : ℕ} → r ≡ node i → Executes t r
       → (Bounds h l × (12 * i + 12 ≤ length t) × (i < 4096) × (0 < i) × (7 ≤ kindAt t i) × (kindAt t i ≤ 14)) × (kindAt t i ≡ 9 → bAt t i < 64)
   executes-node {i} e x = let y : Executes t (node i) = rw e at x in ((b, y .0 .0, y .0 .1, y .0 .2, y .1, y .2), y .3)
@@ -48,11 +48,11 @@ module _ (t l : List ℕ) (h : Head) (r : Ref) (b : Bounds h l) where
   pub executes-seq : {w : ℕ} → r ≡ seqOf w → Executes t r → (Bounds h l × (12 * w + 12 ≤ length t) × (w < 4096) × (0 < w)) × (kindAt t w ≡ 11)
   executes-seq {w} e x = let y : Executes t (seqOf w) = rw e at x in ((b, y .0 .0, y .0 .1, y .0 .2), y .1)
 
-module _ (s : List ℕ) (a : Stepped) (h : Head) (l m R : List ℕ) (f : ℕ) (η : List Value) where
+module _ (s : List ℕ) (a : Stepped) (h : Registers) (l m R : List ℕ) (f : ℕ) (η : List Value) where
   -- nop goes on with what waits
-  waits-done : (K : List Frame) (A : List Saved) → l ≡ core f η K A ++ R → Tells s h f K A → Fit (programOf s) (running (exec Ref.nop) calm f η K A)
-      → ((w : Ref) (L : List Frame) → l ≡ core f η (wait w ∷ L) A ++ R → Tells s h f (wait w ∷ L) A → Comes s a l m R (running (exec w) calm f η L A))
-      → Done s a l m R (passes calm f η K A)
+  waits-done : (K : List Frame) (A : List Saved) → l ≡ core f η K A ++ R → Describes s h f K A → Fit (programOf s) (running (exec Ref.nop) emptyEnv f η K A)
+      → ((w : Ref) (L : List Frame) → l ≡ core f η (wait w ∷ L) A ++ R → Describes s h f (wait w ∷ L) A → StepsTo s a l m R (running (exec w) emptyEnv f η L A))
+      → StepsBy s a l m R (passes emptyEnv f η K A)
   unfolding programOf stmtAt returns
   waits-done [] A i j fit q = absurd (false≢true (fit .proper .returns))
   waits-done (wait w ∷ L) A i j fit q = q w L i j
@@ -64,24 +64,24 @@ module _ (s : List ℕ) (a : Stepped) (h : Head) (l m R : List ℕ) (f : ℕ) (�
   waits-done (check ∷ L) A i j fit q = absurd (fit .proper .frames .1)
   waits-done (Frame.discard ∷ L) A i j fit q = absurd (fit .proper .frames .1)
 
-  pub nop-done : (K : List Frame) (A : List Saved) (t : List ℕ) (r : Ref) → r ≡ Ref.nop → l ≡ core f η K A ++ R → Tells s h f K A
-      → Fit (programOf s) (running (exec r) calm f η K A)
-      → ((w : Ref) (L : List Frame) → l ≡ core f η (wait w ∷ L) A ++ R → Tells s h f (wait w ∷ L) A → Comes s a l m R (running (exec w) calm f η L A))
-      → Done s a l m R (runs (programOf s) (seeAt t r) calm f η K A)
+  pub nop-done : (K : List Frame) (A : List Saved) (t : List ℕ) (r : Ref) → r ≡ Ref.nop → l ≡ core f η K A ++ R → Describes s h f K A
+      → Fit (programOf s) (running (exec r) emptyEnv f η K A)
+      → ((w : Ref) (L : List Frame) → l ≡ core f η (wait w ∷ L) A ++ R → Describes s h f (wait w ∷ L) A → StepsTo s a l m R (running (exec w) emptyEnv f η L A))
+      → StepsBy s a l m R (runs (programOf s) (seeAt t r) emptyEnv f η K A)
   unfolding seeAt
   nop-done K A t r e i j fit q = rw e (waits-done K A i j (rw e at fit) q)
 
 module _ (s : List ℕ) (a : Stepped) (l m R : List ℕ) (f : ℕ) (η : List Value) (K : List Frame) (A : List Saved) (t : List ℕ) (r : Ref) where
-  pub node-done : {i : ℕ} → r ≡ node i → Fit (programOf s) (running (exec r) calm f η K A)
-      → (Fit (programOf s) (running (exec (node i)) calm f η K A) → Done s a l m R (runs (programOf s) (formAt t i) calm f η K A))
-      → Done s a l m R (runs (programOf s) (seeAt t r) calm f η K A)
+  pub node-done : {i : ℕ} → r ≡ node i → Fit (programOf s) (running (exec r) emptyEnv f η K A)
+      → (Fit (programOf s) (running (exec (node i)) emptyEnv f η K A) → StepsBy s a l m R (runs (programOf s) (formAt t i) emptyEnv f η K A))
+      → StepsBy s a l m R (runs (programOf s) (seeAt t r) emptyEnv f η K A)
   unfolding seeAt
   node-done {i} e fit q = rw e (q (rw e at fit))
 
-  pub if-done : {w : ℕ} → r ≡ ifOf w → Done s a l m R (runs (programOf s) (seeAt t (ifOf w)) calm f η K A)
-      → Done s a l m R (runs (programOf s) (seeAt t r) calm f η K A)
+  pub if-done : {w : ℕ} → r ≡ ifOf w → StepsBy s a l m R (runs (programOf s) (seeAt t (ifOf w)) emptyEnv f η K A)
+      → StepsBy s a l m R (runs (programOf s) (seeAt t r) emptyEnv f η K A)
   if-done e q = rw e q
 
-  pub seq-done : {w : ℕ} → r ≡ seqOf w → Done s a l m R (runs (programOf s) (seeAt t (seqOf w)) calm f η K A)
-      → Done s a l m R (runs (programOf s) (seeAt t r) calm f η K A)
+  pub seq-done : {w : ℕ} → r ≡ seqOf w → StepsBy s a l m R (runs (programOf s) (seeAt t (seqOf w)) emptyEnv f η K A)
+      → StepsBy s a l m R (runs (programOf s) (seeAt t r) emptyEnv f η K A)
   seq-done e q = rw e q

@@ -11,8 +11,8 @@ use Rattle.spec_language.proofs.Accept.{accepted-is}
 use Rattle.spec_language.proofs.Facts.{call-fields}
 use Rattle.spec_language.proofs.Typings.{fields-at}
 use Rattle.spec_machine.specs.Values.{Value}
-use Rattle.spec_machine.specs.Program.{Ref, node, Form, varTypes}
-use Rattle.spec_machine.specs.Machine.{Frame, Control, eval, exec, Saved, calm, running}
+use Rattle.spec_machine.specs.Program.{Ref, node, StmtForm, varTypes}
+use Rattle.spec_machine.specs.Machine.{Frame, Control, eval, exec, Saved, emptyEnv, running}
 use Rattle.spec_machine.specs.Fit.{Fit, Var}
 use Rattle.spec_machine.specs.File.{lookAt, formAt, seeAt, programOf}
 use Rattle.spec_machine.proofs.Holding.{holds-length}
@@ -22,7 +22,7 @@ use Rattle.spec_image.proofs.Sized.{file-sized}
 use Rattle.run_step.proofs.Levels.{look-variable}
 
 module _ (s : List ℕ) (passed : checkOf s ≡ accepted) (c : Control) (f : ℕ) (η : List Value) (K : List Frame) (A : List Saved)
-    (fit : Fit (programOf s) (running c calm f η K A)) where
+    (fit : Fit (programOf s) (running c emptyEnv f η K A)) where
   -- it has at most 64 variables
   pub variables-few : length η ≤ 64
   variables-few =
@@ -34,14 +34,14 @@ module _ (s : List ℕ) (passed : checkOf s ≡ accepted) (c : Control) (f : ℕ
 
 -- the variable read, and the variable declared
 pub reads-variable : (s : List ℕ) → checkOf s ≡ accepted → (f : ℕ) (η : List Value) (K : List Frame) (A : List Saved) (i : ℕ)
-    → Fit (programOf s) (running (eval i) calm f η K A) → kindAt (partOf s f) i ≡ 2 → bAt (partOf s f) i < length η
+    → Fit (programOf s) (running (eval i) emptyEnv f η K A) → kindAt (partOf s f) i ≡ 2 → bAt (partOf s f) i < length η
 unfolding programOf
 reads-variable s passed f η K A i fit e =
     let g : GoodE (programOf s) f (lookAt (partOf s f) i) = accepted-program s passed .exprs f i (fit .proper .frames .0) in
     variable-held s passed (eval i) f η K A fit _ (rw (look-variable (partOf s f) i e) at g)
 
 pub decl-variable : (s : List ℕ) → checkOf s ≡ accepted → (f : ℕ) (η : List Value) (K : List Frame) (A : List Saved) (i x : ℕ) (r : Ref)
-    → Fit (programOf s) (running (exec (node i)) calm f η K A) → formAt (partOf s f) i ≡ Form.decl x r → x < length η
+    → Fit (programOf s) (running (exec (node i)) emptyEnv f η K A) → formAt (partOf s f) i ≡ StmtForm.decl x r → x < length η
 unfolding programOf seeAt
 decl-variable s passed f η K A i x r fit e =
     let g : GoodS (programOf s) f (formAt (partOf s f) i) = accepted-program s passed .stmts f (node i) (fit .proper .frames .0) in
@@ -49,7 +49,7 @@ decl-variable s passed f η K A i x r fit e =
 
 -- a call has as many arguments as its function has parameters
 pub call-params : (s : List ℕ) → checkOf s ≡ accepted → (f : ℕ) (η : List Value) (K : List Frame) (A : List Saved) (i : ℕ)
-    → Fit (programOf s) (running (eval i) calm f η K A) → kindAt (partOf s f) i ≡ 5 → paramsOf s (bAt (partOf s f) i) ≡ aAt (partOf s f) i
+    → Fit (programOf s) (running (eval i) emptyEnv f η K A) → kindAt (partOf s f) i ≡ 5 → paramsOf s (bAt (partOf s f) i) ≡ aAt (partOf s f) i
 unfolding programOf
 call-params s passed f η K A i fit e =
     let p = fit .proper in

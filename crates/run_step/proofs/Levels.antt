@@ -6,8 +6,8 @@ use native.Mathlib.Omega.{arith}
 use Rattle.records.specs.Fields.{kindAt, aAt, bAt, sizeAt}
 use Rattle.records.specs.Children.{arities, arityOf, arityAt, walk, children}
 use Rattle.spec_language.specs.Statements.{Shape, prior, last, shapeAt}
-use Rattle.spec_machine.specs.Program.{op, fn, Look, apply}
-use Rattle.spec_machine.specs.File.{backwards, kids, andOf, looks, lookAt, formOf, formAt}
+use Rattle.spec_machine.specs.Program.{op, fn, ExprForm, apply}
+use Rattle.spec_machine.specs.File.{backwards, kids, andForm, looks, lookAt, formOf, formAt}
 
 -- a list with a first entry
 pub record Some (l : List ℕ) : Type 0 where
@@ -43,7 +43,7 @@ module _ (t : List ℕ) (i : ℕ) where
   unfolding kids children
   kids-walk k e = rw e
 
-  pub look-variable : kindAt t i ≡ 2 → lookAt t i ≡ Look.var (bAt t i)
+  pub look-variable : kindAt t i ≡ 2 → lookAt t i ≡ ExprForm.var (bAt t i)
   unfolding lookAt looks
   look-variable e = rw e
 
@@ -51,8 +51,8 @@ module _ (t : List ℕ) (i : ℕ) where
   unfolding lookAt looks
   look-operator e = rw e
 
-  pub look-and : kindAt t i ≡ 4 → lookAt t i ≡ Look.and (prior t (last i)) (last i)
-  unfolding lookAt looks andOf walk backwards prior last
+  pub look-and : kindAt t i ≡ 4 → lookAt t i ≡ ExprForm.and (prior t (last i)) (last i)
+  unfolding lookAt looks andForm walk backwards prior last
   look-and e = rw (e, kids-walk 2 (arity-and e))
 
   pub look-call : kindAt t i ≡ 5 → lookAt t i ≡ apply (fn (bAt t i)) (kids t i)

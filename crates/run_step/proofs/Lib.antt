@@ -6,9 +6,9 @@ pub mod Facts
 pub mod Views
 pub mod Opens
 pub mod Forms
-pub mod Gives
+pub mod GiveShapes
 pub mod Loops
 pub mod Executions
-pub mod Given
-pub mod Gave
+pub mod GiveNeeds
+pub mod GiveResult
 pub mod Standing

@@ -8,35 +8,35 @@ use Rattle.records.specs.Parts.{partOf}
 use Rattle.records.specs.Children.{arityAt, walk}
 use Rattle.spec_language.specs.Statements.{prior, last}
 use Rattle.spec_machine.specs.Values.{Value, nothing}
-use Rattle.spec_machine.specs.Program.{Head, apply}
-use Rattle.spec_machine.specs.Machine.{Frame, gather, and, val, exec, Saved, saved, calm, running, reachL, entered}
+use Rattle.spec_machine.specs.Program.{Operation, apply}
+use Rattle.spec_machine.specs.Machine.{Frame, gather, and, val, exec, Saved, saved, emptyEnv, running, reachL, entered}
 use Rattle.spec_machine.specs.Next.{opens}
 use Rattle.spec_machine.specs.File.{backwards, kids, lookAt, funOf, programOf}
 use Rattle.run_rules.specs.declared.Stepped.{Stepped}
-use Rattle.run_rules.specs.Comes.{Comes}
-use Rattle.run_step.specs.Done.{Done}
+use Rattle.run_rules.specs.StepsTo.{StepsTo}
+use Rattle.run_step.specs.StepsBy.{StepsBy}
 use Rattle.run_step.proofs.Levels.{arity-call, kids-walk, look-variable, look-and, look-call}
 
 module _ (s t : List ℕ) (r : Stepped) (l m R : List ℕ) (f : ℕ) (η : List Value) (K : List Frame) (A : List Saved) (i : ℕ) where
-  pub variable-done : (v : Value) → kindAt t i ≡ 2 → v ≡ getD η (bAt t i) nothing → Comes s r l m R (running (val v) calm f η K A)
-      → Done s r l m R (opens (programOf s) (lookAt t i) calm f η K A)
+  pub variable-done : (v : Value) → kindAt t i ≡ 2 → v ≡ getD η (bAt t i) nothing → StepsTo s r l m R (running (val v) emptyEnv f η K A)
+      → StepsBy s r l m R (opens (programOf s) (lookAt t i) emptyEnv f η K A)
   variable-done v k e q = rw (look-variable t i k, ← e) q
 
   -- what gathers operands
-  pub gather-done : (h : Head) (k e : ℕ) (ns : List ℕ) → lookAt t i ≡ apply h (kids t i) → arityAt t i ≡ k → t ≡ partOf s f
-      → backwards (walk (sizeAt t) k (i - 1)) [] ≡ e ∷ ns → Comes s r l m R (running (reachL e (lookAt t e)) calm f η (gather h [] ns ∷ K) A)
-      → Done s r l m R (opens (programOf s) (lookAt t i) calm f η K A)
+  pub gather-done : (h : Operation) (k e : ℕ) (ns : List ℕ) → lookAt t i ≡ apply h (kids t i) → arityAt t i ≡ k → t ≡ partOf s f
+      → backwards (walk (sizeAt t) k (i - 1)) [] ≡ e ∷ ns → StepsTo s r l m R (running (reachL e (lookAt t e)) emptyEnv f η (gather h [] ns ∷ K) A)
+      → StepsBy s r l m R (opens (programOf s) (lookAt t i) emptyEnv f η K A)
   unfolding programOf
   gather-done h k e ns look n part w q = rw (look, kids-walk t i k n, w, ← part) q
 
   pub none-done : (g : ℕ) → kindAt t i ≡ 5 → aAt t i ≡ 0 → g ≡ bAt t i
-      → Comes s r l m R (running (exec (funOf s g .body)) calm g (entered (funOf s g) []) [] (saved f η K ∷ A))
-      → Done s r l m R (opens (programOf s) (lookAt t i) calm f η K A)
+      → StepsTo s r l m R (running (exec (funOf s g .body)) emptyEnv g (entered (funOf s g) []) [] (saved f η K ∷ A))
+      → StepsBy s r l m R (opens (programOf s) (lookAt t i) emptyEnv f η K A)
   unfolding programOf walk backwards
   none-done g k z e q = rw (look-call t i k, kids-walk t i 0 (arity-call t i k ∙ z), ← e) q
 
   pub and-done : kindAt t i ≡ 4 → t ≡ partOf s f → (e : ℕ) → e ≡ i - 1 - sizeAt t (i - 1)
-      → Comes s r l m R (running (reachL e (lookAt t e)) calm f η (and (i - 1) ∷ K) A)
-      → Done s r l m R (opens (programOf s) (lookAt t i) calm f η K A)
+      → StepsTo s r l m R (running (reachL e (lookAt t e)) emptyEnv f η (and (i - 1) ∷ K) A)
+      → StepsBy s r l m R (opens (programOf s) (lookAt t i) emptyEnv f η K A)
   unfolding programOf prior last
   and-done k part e h q = rw (look-and t i k, ← part, ← h) q

@@ -12,7 +12,7 @@ use Rattle.state_words.specs.declared.Value.{Value}
 use Rattle.state_words.specs.declared.Value.the-variants.{Nothing, Int, Truth}
 use Rattle.state_words.specs.Meaning.{valueIs}
 use Rattle.state_words.proofs.Value.{the-type}
-use Rattle.run_step.specs.Done.{IsInt, IsTruth}
+use Rattle.run_step.specs.StepsBy.{IsInt, IsTruth}
 
 -- an int is of no other kind, nor is a bool
 pub int-only : (v : Value) → IsInt v → OneOf (0 ∷ 2 ∷ []) (tagOf the-type v) → ⊥

@@ -16,7 +16,7 @@ use Rattle.spec_language.specs.Flow.{returns}
 use Rattle.spec_language.proofs.Accept.{accepted-is, nodes-known, calls-known}
 use Rattle.spec_machine.specs.Values.{Value}
 use Rattle.spec_machine.specs.Program.{Ref, node, ifOf, seqOf}
-use Rattle.spec_machine.specs.Machine.{Frame, Control, val, eval, exec, Saved, calm, running}
+use Rattle.spec_machine.specs.Machine.{Frame, Control, val, eval, exec, Saved, emptyEnv, running}
 use Rattle.spec_machine.specs.Fit.{Fit, isExpr, isConst, isStmt, isNop}
 use Rattle.spec_machine.specs.File.{lookAt, formAt, ifForm, seqForm, seeAt, stmtAt, programOf}
 use Rattle.spec_machine.proofs.Levels.{by-look, by-form}
@@ -28,12 +28,12 @@ use Rattle.state_words.specs.declared.Value as code-value
 use Rattle.state_words.specs.declared.Value.the-variants as value
 use Rattle.spec_image.specs.Decode.{refOf}
 use Rattle.state_words.specs.Meaning.{valueIs, controlIs}
-use Rattle.run_rules.specs.declared.Head.{Head}
+use Rattle.run_rules.specs.declared.Registers.{Registers}
 use Rattle.run_rules.specs.declared.Stepped.{Stepped}
-use Rattle.run_rules.specs.Comes.{Tells, Bounds}
+use Rattle.run_rules.specs.StepsTo.{Describes, Bounds}
 use Rattle.records.proofs.StartTables.{part-cut}
-use Rattle.run_step.specs.Done.{Node, Executes, Stands, Done}
-use Rattle.run_step.proofs.Given.{limited, part-inside}
+use Rattle.run_step.specs.StepsBy.{Node, Executes, AtFitState, StepsBy}
+use Rattle.run_step.proofs.GiveNeeds.{limited, part-inside}
 
 -- the kinds that are evaluated, and those that are executed
 evaluated : (t : List ℕ) (i : ℕ) → isExpr (lookAt t i) ≡ true → isConst (lookAt t i) ≡ false → (2 ≤ kindAt t i) × (kindAt t i ≤ 5)
@@ -65,7 +65,7 @@ loop-seq t w =
     (λ e b. absurd (false≢true b)) (λ e p b. absurd (false≢true b)) (λ e p b. absurd (false≢true b)) (λ e p b. absurd (false≢true b)) (λ e p b. absurd (false≢true b))
     (λ e p b. (p, e)) (λ e p b. absurd (false≢true b)) (λ e p b. absurd (false≢true b)) (λ e p b. absurd (false≢true b)) (λ n z b. absurd (false≢true b))
 
-module _ (s table : List ℕ) (c : Control) (h : Head) (l : List ℕ) (st : Stands s table c h l) where
+module _ (s table : List ℕ) (c : Control) (h : Registers) (l : List ℕ) (st : AtFitState s table c h l) where
   pub known : h .function < functions s
   unfolding programOf
   known = st .fit .proper .known
@@ -83,17 +83,17 @@ module _ (s table : List ℕ) (c : Control) (h : Head) (l : List ℕ) (st : Stan
   pub bounds : 16384 ≤ length l → Bounds h l
   bounds n = let q = limited (st .tells) (st .fit) in (n, q .0, q .1)
 
-module _ (s table t : List ℕ) (h : Head) (l : List ℕ) (part : t ≡ partOf s (h .function)) where
-  inside : (c : Control) (st : Stands s table c h l) (i : ℕ) → i < countOf s (h .function) → (12 * i + 12 ≤ length t) × (i < 4096)
+module _ (s table t : List ℕ) (h : Registers) (l : List ℕ) (part : t ≡ partOf s (h .function)) where
+  inside : (c : Control) (st : AtFitState s table c h l) (i : ℕ) → i < countOf s (h .function) → (12 * i + 12 ≤ length t) × (i < 4096)
   inside c st i n =
       let k = known s table c h l st in
       (part-inside s table t (h .function) i (st .starts) k part n, omega (arith, n, st .starts .0 .small (h .function) k))
 
-  nodes : (c : Control) (st : Stands s table c h l) → Known (partOf s (h .function)) (countOf s (h .function))
+  nodes : (c : Control) (st : AtFitState s table c h l) → Known (partOf s (h .function)) (countOf s (h .function))
   nodes c st = nodes-known s (accepted-is s (st .passed)) (h .function) (known s table c h l st)
 
   -- an expression to evaluate
-  pub evaluates : (i : ℕ) → Stands s table (eval i) h l → Node s t i × (2 ≤ kindAt t i) × (kindAt t i ≤ 5)
+  pub evaluates : (i : ℕ) → AtFitState s table (eval i) h l → Node s t i × (2 ≤ kindAt t i) × (kindAt t i ≤ 5)
   unfolding programOf namesVariable usesVariable
   evaluates i st =
       let g = st .fit .proper .frames in
@@ -114,7 +114,7 @@ module _ (s table t : List ℕ) (h : Head) (l : List ℕ) (part : t ≡ partOf s
       )
 
   -- a statement to execute
-  pub executes : (r : Ref) → Stands s table (exec r) h l → Executes t r
+  pub executes : (r : Ref) → AtFitState s table (exec r) h l → Executes t r
   unfolding programOf seeAt namesVariable usesVariable
   executes (node i) st =
       let g = st .fit .proper .frames .0 in
@@ -137,11 +137,11 @@ module _ (s table t : List ℕ) (h : Head) (l : List ℕ) (part : t ≡ partOf s
       ((w .0, w .1, q .0), rw part (q .1))
 
 -- something waits where nop is executed
-pub waiting : (s table : List ℕ) (h : Head) (l : List ℕ) (r : Ref) → Stands s table (exec r) h l → r ≡ Ref.nop → 1 ≤ h .frames
+pub waiting : (s table : List ℕ) (h : Registers) (l : List ℕ) (r : Ref) → AtFitState s table (exec r) h l → r ≡ Ref.nop → 1 ≤ h .frames
 unfolding programOf stmtAt returns
 waiting s table h l r st e = go (st .frames) (st .tells) (rw e at (st .fit))
   where
-    go : (K : List Frame) → Tells s h (h .function) K (st .callers) → Fit (programOf s) (running (exec Ref.nop) calm (h .function) (st .variables) K (st .callers)) → 1 ≤ h .frames
+    go : (K : List Frame) → Describes s h (h .function) K (st .callers) → Fit (programOf s) (running (exec Ref.nop) emptyEnv (h .function) (st .variables) K (st .callers)) → 1 ≤ h .frames
     go [] t f = absurd (false≢true (f .proper .returns))
     go (fr ∷ K) t f = omega (arith, t .frames)
 
@@ -160,39 +160,39 @@ module _ (c : code.Control) (v : code-value.Value) where
   unfolding controlIs valueIs
   truth-hand b e d = rw (e, d)
 
-module _ (s table : List ℕ) (c : code.Control) (h : Head) (l : List ℕ) where
-  pub stands-val : (v : code-value.Value) → controlIs c ≡ val (valueIs v) → Stands s table (controlIs c) h l → Stands s table (val (valueIs v)) h l
+module _ (s table : List ℕ) (c : code.Control) (h : Registers) (l : List ℕ) where
+  pub stands-val : (v : code-value.Value) → controlIs c ≡ val (valueIs v) → AtFitState s table (controlIs c) h l → AtFitState s table (val (valueIs v)) h l
   stands-val v e st = rw e at st
 
-  pub stands-eval : (i : ℕ) → c ≡ control.Eval i → Stands s table (controlIs c) h l → Stands s table (eval i) h l
+  pub stands-eval : (i : ℕ) → c ≡ control.Eval i → AtFitState s table (controlIs c) h l → AtFitState s table (eval i) h l
   unfolding controlIs
   stands-eval i e st = rw e at st
 
-  pub stands-exec : (r : ℕ) → c ≡ control.Exec r → Stands s table (controlIs c) h l → Stands s table (exec (refOf r)) h l
+  pub stands-exec : (r : ℕ) → c ≡ control.Exec r → AtFitState s table (controlIs c) h l → AtFitState s table (exec (refOf r)) h l
   unfolding controlIs
   stands-exec r e st = rw e at st
 
-module _ (s : List ℕ) (r : Stepped) (h : Head) (l m R : List ℕ) (f : ℕ) (η : List Value) where
-  pub val-done : (K : List Frame) (A : List Saved) (c : code.Control) (v : code-value.Value) → controlIs c ≡ val (valueIs v) → l ≡ core f η K A ++ R → Tells s h f K A
-      → Fit (programOf s) (running (controlIs c) calm f η K A)
-      → ((fr : Frame) (L : List Frame) → l ≡ core f η (fr ∷ L) A ++ R → Tells s h f (fr ∷ L) A → Fit (programOf s) (running (val (valueIs v)) calm f η (fr ∷ L) A)
-      → Done s r l m R (give (programOf s) (valueIs v) calm f η (fr ∷ L) A))
-      → Done s r l m R (next (programOf s) (running (controlIs c) calm f η K A))
+module _ (s : List ℕ) (r : Stepped) (h : Registers) (l m R : List ℕ) (f : ℕ) (η : List Value) where
+  pub val-done : (K : List Frame) (A : List Saved) (c : code.Control) (v : code-value.Value) → controlIs c ≡ val (valueIs v) → l ≡ core f η K A ++ R → Describes s h f K A
+      → Fit (programOf s) (running (controlIs c) emptyEnv f η K A)
+      → ((fr : Frame) (L : List Frame) → l ≡ core f η (fr ∷ L) A ++ R → Describes s h f (fr ∷ L) A → Fit (programOf s) (running (val (valueIs v)) emptyEnv f η (fr ∷ L) A)
+      → StepsBy s r l m R (give (programOf s) (valueIs v) emptyEnv f η (fr ∷ L) A))
+      → StepsBy s r l m R (next (programOf s) (running (controlIs c) emptyEnv f η K A))
   val-done [] A c v e i j fit q = absurd ((rw e at fit) .proper .frames)
   val-done (fr ∷ L) A c v e i j fit q = rw e (q fr L i j (rw e at fit))
 
   module _ (K : List Frame) (A : List Saved) (t : List ℕ) (c : code.Control) where
-    pub eval-done : (i : ℕ) → c ≡ control.Eval i → Tells s h f K A → t ≡ partOf s (h .function) → Fit (programOf s) (running (controlIs c) calm f η K A)
-        → (t ≡ partOf s f → Fit (programOf s) (running (eval i) calm f η K A) → Done s r l m R (opens (programOf s) (lookAt t i) calm f η K A))
-        → Done s r l m R (next (programOf s) (running (controlIs c) calm f η K A))
+    pub eval-done : (i : ℕ) → c ≡ control.Eval i → Describes s h f K A → t ≡ partOf s (h .function) → Fit (programOf s) (running (controlIs c) emptyEnv f η K A)
+        → (t ≡ partOf s f → Fit (programOf s) (running (eval i) emptyEnv f η K A) → StepsBy s r l m R (opens (programOf s) (lookAt t i) emptyEnv f η K A))
+        → StepsBy s r l m R (next (programOf s) (running (controlIs c) emptyEnv f η K A))
     unfolding controlIs programOf
     eval-done i e j part fit q =
         let p : t ≡ partOf s f = part ∙ ap (partOf s) (j .function) in
         rw (e, ← p) (q p (rw e at fit))
 
-    pub exec-done : (k : ℕ) → c ≡ control.Exec k → Tells s h f K A → t ≡ partOf s (h .function) → Fit (programOf s) (running (controlIs c) calm f η K A)
-        → (t ≡ partOf s f → Fit (programOf s) (running (exec (refOf k)) calm f η K A) → Done s r l m R (runs (programOf s) (seeAt t (refOf k)) calm f η K A))
-        → Done s r l m R (next (programOf s) (running (controlIs c) calm f η K A))
+    pub exec-done : (k : ℕ) → c ≡ control.Exec k → Describes s h f K A → t ≡ partOf s (h .function) → Fit (programOf s) (running (controlIs c) emptyEnv f η K A)
+        → (t ≡ partOf s f → Fit (programOf s) (running (exec (refOf k)) emptyEnv f η K A) → StepsBy s r l m R (runs (programOf s) (seeAt t (refOf k)) emptyEnv f η K A))
+        → StepsBy s r l m R (next (programOf s) (running (controlIs c) emptyEnv f η K A))
     unfolding controlIs programOf
     exec-done k e j part fit q =
         let p : t ≡ partOf s f = part ∙ ap (partOf s) (j .function) in

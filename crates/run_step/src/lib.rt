@@ -7,7 +7,7 @@ use records::nodes::b_at;
 use records::nodes::kind_at;
 use records::nodes::prior;
 use records::wide;
-use run_rules::Head;
+use run_rules::Registers;
 use run_rules::Stepped;
 use state_stack::top::Top;
 use state_words::Control;
@@ -22,16 +22,16 @@ ghost use Rattle.spec_language.specs.Check.{accepted, checkOf};
 ghost use Rattle.spec_machine.specs.Values as values;
 ghost use Rattle.spec_machine.specs.Program as program;
 ghost use Rattle.spec_machine.specs.Machine as machine;
-ghost use Rattle.spec_machine.specs.Machine.{calm, Frame, Saved, running, reachL};
+ghost use Rattle.spec_machine.specs.Machine.{emptyEnv, Frame, Saved, running, reachL};
 ghost use Rattle.spec_machine.specs.Next as next;
 ghost use Rattle.spec_machine.specs.Fit.{Fit};
 ghost use Rattle.spec_machine.specs.File.{lookAt, programOf};
 ghost use Rattle.spec_image.specs.Image.{savedFrames};
 ghost use Rattle.spec_image.specs.Core.{core};
 ghost use Rattle.state_words.specs.Meaning.{valueIs, controlIs};
-ghost use Rattle.run_rules.specs.Comes.{Tells, Bounds, Called, Cleared, Comes};
+ghost use Rattle.run_rules.specs.StepsTo.{Describes, Bounds, Called, Cleared, StepsTo};
 ghost use Rattle.records.specs.Starts.{Starts};
-ghost use Rattle.run_step.specs.Done.{IsInt, IsTruth, Node, Stands, Done};
+ghost use Rattle.run_step.specs.StepsBy.{IsInt, IsTruth, Node, AtFitState, StepsBy};
 
 // What nobody can ask for.
 fn unreachable() -> Stepped
@@ -42,10 +42,10 @@ fn unreachable() -> Stepped
 }
 
 // The next operand of the top frame, which has y values and z nodes waiting.
-fn next_operand(part: &[u8], m: &mut [u32], h: Head, y: u32, z: u32, v: Value) -> Stepped
+fn next_operand(part: &[u8], m: &mut [u32], h: Registers, y: u32, z: u32, v: Value) -> Stepped
     requires { ⌜ Bounds h (now m) × (1 ≤ h .frames) × (y < 8) × (1 ≤ z) ⌝ }
     requires inside { ⌜ 12 * getD (now m) (4480 + (h .under + (h .frames - 1)) * 20 + (4 + y * 2)) 0 + 12 ≤ length (now part) ⌝ }
-    ensures { λ r. ⌜ ((s : List ℕ) (f : ℕ) (η : List values.Value) (g : program.Head) (vs : List values.Value) (e : ℕ) (ns : List ℕ) (K : List Frame) (A : List Saved) (R : List ℕ) → now (m .entry) ≡ core f η (machine.gather g vs (e ∷ ns) ∷ K) A ++ R → Tells s h f (machine.gather g vs (e ∷ ns) ∷ K) A → length vs + suc (length ns) ≤ 7 → y ≡ length vs → z ≡ suc (length ns) → Comes s r (now (m .entry)) (now (m .exit)) R (running (reachL e (lookAt (now (part .entry)) e)) calm f η (machine.gather g (vs ++ (valueIs v ∷ [])) ns ∷ K) A)) ⌝ }
+    ensures { λ r. ⌜ ((s : List ℕ) (f : ℕ) (η : List values.Value) (g : program.Operation) (vs : List values.Value) (e : ℕ) (ns : List ℕ) (K : List Frame) (A : List Saved) (R : List ℕ) → now (m .entry) ≡ core f η (machine.gather g vs (e ∷ ns) ∷ K) A ++ R → Describes s h f (machine.gather g vs (e ∷ ns) ∷ K) A → length vs + suc (length ns) ≤ 7 → y ≡ length vs → z ≡ suc (length ns) → StepsTo s r (now (m .entry)) (now (m .exit)) R (running (reachL e (lookAt (now (part .entry)) e)) emptyEnv f η (machine.gather g (vs ++ (valueIs v ∷ [])) ns ∷ K) A)) ⌝ }
 {
     let frames = h.frames - 1;
     let e = state_words::frames::frame_word(m, h.under + frames, 4 + y as usize * 2);
@@ -62,10 +62,10 @@ fn raise(m: &mut [u32], exception: Stepped) -> Stepped
 }
 
 // Applies operator o to the operand in the top frame and the one at hand.
-fn operate(file: &[u8], m: &mut [u32], h: Head, o: u32, v: Value) -> Stepped
+fn operate(file: &[u8], m: &mut [u32], h: Registers, o: u32, v: Value) -> Stepped
     requires { ⌜ Bounds h (now m) × (1 ≤ h .frames) × (o < 16) × (9 ≤ length (now file)) ⌝ }
     requires ints { ⌜ IsInt v × (getD (now m) (4480 + (h .under + (h .frames - 1)) * 20 + (4 + 0 * 2)) 0 ≡ 1) ⌝ }
-    ensures { λ r. ⌜ ((f : ℕ) (η : List values.Value) (a b : ℕ) (K : List Frame) (A : List Saved) (R : List ℕ) → now (m .entry) ≡ core f η (machine.gather (program.op o) (values.int a ∷ []) [] ∷ K) A ++ R → Tells (now (file .entry)) h f (machine.gather (program.op o) (values.int a ∷ []) [] ∷ K) A → valueIs v ≡ values.int b → Done (now (file .entry)) r (now (m .entry)) (now (m .exit)) R (next.settle calm f η K A (values.result (getD (now (file .entry)) 8 0) o a b))) ⌝ }
+    ensures { λ r. ⌜ ((f : ℕ) (η : List values.Value) (a b : ℕ) (K : List Frame) (A : List Saved) (R : List ℕ) → now (m .entry) ≡ core f η (machine.gather (program.op o) (values.int a ∷ []) [] ∷ K) A ++ R → Describes (now (file .entry)) h f (machine.gather (program.op o) (values.int a ∷ []) [] ∷ K) A → valueIs v ≡ values.int b → StepsBy (now (file .entry)) r (now (m .entry)) (now (m .exit)) R (next.settle emptyEnv f η K A (values.result (getD (now (file .entry)) 8 0) o a b))) ⌝ }
 {
     let Value::Int(b) = v else {
         return unreachable();
@@ -82,9 +82,9 @@ fn operate(file: &[u8], m: &mut [u32], h: Head, o: u32, v: Value) -> Stepped
 }
 
 // Takes the top frame off, and goes on by the bool at hand.
-fn choose(m: &mut [u32], h: Head, v: Value, yes: Control, no: Control) -> Stepped
+fn choose(m: &mut [u32], h: Registers, v: Value, yes: Control, no: Control) -> Stepped
     requires { ⌜ Bounds h (now m) × (1 ≤ h .frames) × IsTruth v ⌝ }
-    ensures { λ r. ⌜ ((s : List ℕ) (p q : machine.Rule) (f : ℕ) (η : List values.Value) (fr : Frame) (K : List Frame) (A : List Saved) (R : List ℕ) → now (m .entry) ≡ core f η (fr ∷ K) A ++ R → Tells s h f (fr ∷ K) A → Done s r (now (m .entry)) (now (m .exit)) R (next.onTruth (valueIs v) (next.goes p (running (controlIs yes) calm f η K A)) (next.goes q (running (controlIs no) calm f η K A)))) ⌝ }
+    ensures { λ r. ⌜ ((s : List ℕ) (p q : machine.Rule) (f : ℕ) (η : List values.Value) (fr : Frame) (K : List Frame) (A : List Saved) (R : List ℕ) → now (m .entry) ≡ core f η (fr ∷ K) A ++ R → Describes s h f (fr ∷ K) A → StepsBy s r (now (m .entry)) (now (m .exit)) R (next.onTruth (valueIs v) (next.goes p (running (controlIs yes) emptyEnv f η K A)) (next.goes q (running (controlIs no) emptyEnv f η K A)))) ⌝ }
 {
     let Value::Truth(truth) = v else {
         return unreachable();
@@ -97,9 +97,9 @@ fn choose(m: &mut [u32], h: Head, v: Value, yes: Control, no: Control) -> Steppe
 }
 
 // Goes on after an assert that holds, and ends the run where it does not.
-fn affirm(m: &mut [u32], h: Head, v: Value) -> Stepped
+fn affirm(m: &mut [u32], h: Registers, v: Value) -> Stepped
     requires { ⌜ Bounds h (now m) × (1 ≤ h .frames) × IsTruth v ⌝ }
-    ensures { λ r. ⌜ ((s : List ℕ) (p q : machine.Rule) (f : ℕ) (η : List values.Value) (fr : Frame) (K : List Frame) (A : List Saved) (R : List ℕ) → now (m .entry) ≡ core f η (fr ∷ K) A ++ R → Tells s h f (fr ∷ K) A → Done s r (now (m .entry)) (now (m .exit)) R (next.onTruth (valueIs v) (next.goes p (running (machine.exec program.Ref.nop) calm f η K A)) (next.goes q (machine.exception machine.abort)))) ⌝ }
+    ensures { λ r. ⌜ ((s : List ℕ) (p q : machine.Rule) (f : ℕ) (η : List values.Value) (fr : Frame) (K : List Frame) (A : List Saved) (R : List ℕ) → now (m .entry) ≡ core f η (fr ∷ K) A ++ R → Describes s h f (fr ∷ K) A → StepsBy s r (now (m .entry)) (now (m .exit)) R (next.onTruth (valueIs v) (next.goes p (running (machine.exec program.Ref.nop) emptyEnv f η K A)) (next.goes q (machine.exception machine.abort)))) ⌝ }
 {
     let Value::Truth(truth) = v else {
         return unreachable();
@@ -112,11 +112,11 @@ fn affirm(m: &mut [u32], h: Head, v: Value) -> Stepped
 }
 
 // Leaves the current function with a value.
-fn depart(file: &[u8], starts: &[usize; 128], m: &mut [u32], h: Head, v: Value) -> Stepped
+fn depart(file: &[u8], starts: &[usize; 128], m: &mut [u32], h: Registers, v: Value) -> Stepped
     requires { ⌜ Bounds h (now m) × Starts (now file) (now starts) ⌝ }
     requires outermost { ⌜ (h .callers ≡ 0 → IsInt v) ⌝ }
     requires called { ⌜ (1 ≤ h .callers → Called (now file) h (now m)) ⌝ }
-    ensures { λ r. ⌜ ((f : ℕ) (η : List values.Value) (J : List Frame) (A : List Saved) (R : List ℕ) → now (m .entry) ≡ core f η J A ++ R → Tells (now (file .entry)) h f J A → Done (now (file .entry)) r (now (m .entry)) (now (m .exit)) R (next.leaving calm (valueIs v) A)) ⌝ }
+    ensures { λ r. ⌜ ((f : ℕ) (η : List values.Value) (J : List Frame) (A : List Saved) (R : List ℕ) → now (m .entry) ≡ core f η J A ++ R → Describes (now (file .entry)) h f J A → StepsBy (now (file .entry)) r (now (m .entry)) (now (m .exit)) R (next.leaving emptyEnv (valueIs v) A)) ⌝ }
 {
     if h.callers == 0 {
         let Value::Int(word) = v else {
@@ -133,11 +133,11 @@ fn call(
     starts: &[usize; 128],
     part: &[u8],
     m: &mut [u32],
-    h: Head,
+    h: Registers,
     i: usize,
 ) -> Stepped
     requires { ⌜ Bounds h (now m) × Starts (now file) (now starts) × Node (now file) (now part) i × (kindAt (now part) i ≡ 5) ⌝ }
-    ensures { λ r. ⌜ ((f : ℕ) (η : List values.Value) (K : List Frame) (A : List Saved) (R : List ℕ) → now (m .entry) ≡ core f η K A ++ R → Tells (now (file .entry)) h f K A → now (part .entry) ≡ partOf (now (file .entry)) f → paramsOf (now (file .entry)) (bAt (now (part .entry)) i) ≡ aAt (now (part .entry)) i → Done (now (file .entry)) r (now (m .entry)) (now (m .exit)) R (next.opens (programOf (now (file .entry))) (lookAt (now (part .entry)) i) calm f η K A)) ⌝ }
+    ensures { λ r. ⌜ ((f : ℕ) (η : List values.Value) (K : List Frame) (A : List Saved) (R : List ℕ) → now (m .entry) ≡ core f η K A ++ R → Describes (now (file .entry)) h f K A → now (part .entry) ≡ partOf (now (file .entry)) f → paramsOf (now (file .entry)) (bAt (now (part .entry)) i) ≡ aAt (now (part .entry)) i → StepsBy (now (file .entry)) r (now (m .entry)) (now (m .exit)) R (next.opens (programOf (now (file .entry))) (lookAt (now (part .entry)) i) emptyEnv f η K A)) ⌝ }
 {
     let g = b_at(part, i);
     let k = wide(a_at(part, i));
@@ -148,9 +148,16 @@ fn call(
 }
 
 // Evaluates the expression at node i.
-fn open(file: &[u8], starts: &[usize; 128], part: &[u8], m: &mut [u32], h: Head, i: u32) -> Stepped
+fn open(
+    file: &[u8],
+    starts: &[usize; 128],
+    part: &[u8],
+    m: &mut [u32],
+    h: Registers,
+    i: u32,
+) -> Stepped
     requires { ⌜ Bounds h (now m) × Starts (now file) (now starts) × Node (now file) (now part) i × (2 ≤ kindAt (now part) i) × (kindAt (now part) i ≤ 5) ⌝ }
-    ensures { λ r. ⌜ ((f : ℕ) (η : List values.Value) (K : List Frame) (A : List Saved) (R : List ℕ) → now (m .entry) ≡ core f η K A ++ R → Tells (now (file .entry)) h f K A → checkOf (now (file .entry)) ≡ accepted → now (part .entry) ≡ partOf (now (file .entry)) f → Fit (programOf (now (file .entry))) (running (machine.eval i) calm f η K A) → Done (now (file .entry)) r (now (m .entry)) (now (m .exit)) R (next.opens (programOf (now (file .entry))) (lookAt (now (part .entry)) i) calm f η K A)) ⌝ }
+    ensures { λ r. ⌜ ((f : ℕ) (η : List values.Value) (K : List Frame) (A : List Saved) (R : List ℕ) → now (m .entry) ≡ core f η K A ++ R → Describes (now (file .entry)) h f K A → checkOf (now (file .entry)) ≡ accepted → now (part .entry) ≡ partOf (now (file .entry)) f → Fit (programOf (now (file .entry))) (running (machine.eval i) emptyEnv f η K A) → StepsBy (now (file .entry)) r (now (m .entry)) (now (m .exit)) R (next.opens (programOf (now (file .entry))) (lookAt (now (part .entry)) i) emptyEnv f η K A)) ⌝ }
 {
     let at = i as usize;
     let kind = kind_at(part, at);
@@ -185,11 +192,11 @@ fn give(
     starts: &[usize; 128],
     part: &[u8],
     m: &mut [u32],
-    h: Head,
+    h: Registers,
     v: Value,
 ) -> Stepped
-    requires { ⌜ Stands (now file) (now starts) (machine.val (valueIs v)) h (now m) × (now part ≡ partOf (now file) (h .function)) × (16384 ≤ length (now m)) ⌝ }
-    ensures { λ r. ⌜ ((f : ℕ) (η : List values.Value) (fr : Frame) (K : List Frame) (A : List Saved) (R : List ℕ) → now (m .entry) ≡ core f η (fr ∷ K) A ++ R → Tells (now (file .entry)) h f (fr ∷ K) A → Fit (programOf (now (file .entry))) (running (machine.val (valueIs v)) calm f η (fr ∷ K) A) → Done (now (file .entry)) r (now (m .entry)) (now (m .exit)) R (next.give (programOf (now (file .entry))) (valueIs v) calm f η (fr ∷ K) A)) ⌝ }
+    requires { ⌜ AtFitState (now file) (now starts) (machine.val (valueIs v)) h (now m) × (now part ≡ partOf (now file) (h .function)) × (16384 ≤ length (now m)) ⌝ }
+    ensures { λ r. ⌜ ((f : ℕ) (η : List values.Value) (fr : Frame) (K : List Frame) (A : List Saved) (R : List ℕ) → now (m .entry) ≡ core f η (fr ∷ K) A ++ R → Describes (now (file .entry)) h f (fr ∷ K) A → Fit (programOf (now (file .entry))) (running (machine.val (valueIs v)) emptyEnv f η (fr ∷ K) A) → StepsBy (now (file .entry)) r (now (m .entry)) (now (m .exit)) R (next.give (programOf (now (file .entry))) (valueIs v) emptyEnv f η (fr ∷ K) A)) ⌝ }
 {
     let frames = h.frames - 1;
     let top = state_stack::top::top_frame(m, h.under + frames);
@@ -220,9 +227,9 @@ fn give(
 }
 
 // One step of a running state: the control and the head are handed on, and the rest is in the memory.
-pub fn step(file: &[u8], starts: &[usize; 128], m: &mut [u32], c: Control, h: Head) -> Stepped
-    requires { ⌜ Stands (now file) (now starts) (controlIs c) h (now m) × (16384 ≤ length (now m)) ⌝ }
-    ensures { λ r. ⌜ ((f : ℕ) (η : List values.Value) (K : List Frame) (A : List Saved) (R : List ℕ) → now (m .entry) ≡ core f η K A ++ R → Tells (now (file .entry)) h f K A → Fit (programOf (now (file .entry))) (running (controlIs c) calm f η K A) → Done (now (file .entry)) r (now (m .entry)) (now (m .exit)) R (next.next (programOf (now (file .entry))) (running (controlIs c) calm f η K A))) ⌝ }
+pub fn step(file: &[u8], starts: &[usize; 128], m: &mut [u32], c: Control, h: Registers) -> Stepped
+    requires { ⌜ AtFitState (now file) (now starts) (controlIs c) h (now m) × (16384 ≤ length (now m)) ⌝ }
+    ensures { λ r. ⌜ ((f : ℕ) (η : List values.Value) (K : List Frame) (A : List Saved) (R : List ℕ) → now (m .entry) ≡ core f η K A ++ R → Describes (now (file .entry)) h f K A → Fit (programOf (now (file .entry))) (running (controlIs c) emptyEnv f η K A) → StepsBy (now (file .entry)) r (now (m .entry)) (now (m .exit)) R (next.next (programOf (now (file .entry))) (running (controlIs c) emptyEnv f η K A))) ⌝ }
 {
     let a = h.start;
     let e = a + 12 * h.count;

@@ -4,7 +4,7 @@ use records::nodes::b_at;
 use records::nodes::kind_at;
 use records::nodes::prior;
 use records::wide;
-use run_rules::Head;
+use run_rules::Registers;
 use run_rules::Stepped;
 use state_words::Control;
 use state_words::Value;
@@ -18,15 +18,15 @@ ghost use Rattle.spec_language.specs.Check.{accepted, checkOf};
 ghost use Rattle.spec_machine.specs.Values as values;
 ghost use Rattle.spec_machine.specs.Program as program;
 ghost use Rattle.spec_machine.specs.Machine as machine;
-ghost use Rattle.spec_machine.specs.Machine.{calm, Frame, wait, Saved, running};
+ghost use Rattle.spec_machine.specs.Machine.{emptyEnv, Frame, wait, Saved, running};
 ghost use Rattle.spec_machine.specs.Next as next;
 ghost use Rattle.spec_machine.specs.Fit.{Fit};
 ghost use Rattle.spec_machine.specs.File.{refAt, formAt, seeAt, programOf};
 ghost use Rattle.spec_image.specs.Layout.{refWord};
 ghost use Rattle.spec_image.specs.Decode.{refOf};
 ghost use Rattle.spec_image.specs.Core.{core};
-ghost use Rattle.run_rules.specs.Comes.{Tells, Bounds, Comes};
-ghost use Rattle.run_step.specs.Done.{inLoop, Executes, Done};
+ghost use Rattle.run_rules.specs.StepsTo.{Describes, Bounds, StepsTo};
+ghost use Rattle.run_step.specs.StepsBy.{inLoop, Executes, StepsBy};
 
 // The word of the statement at node i; nop is one and the same.
 fn ref_word_at(part: &[u8], i: usize) -> u32
@@ -41,9 +41,9 @@ fn ref_word_at(part: &[u8], i: usize) -> u32
 }
 
 // Goes on with the statement that waits in the top frame.
-fn resume(m: &mut [u32], h: Head) -> Stepped
+fn resume(m: &mut [u32], h: Registers) -> Stepped
     requires { ⌜ Bounds h (now m) × (1 ≤ h .frames) ⌝ }
-    ensures { λ a. ⌜ ((s : List ℕ) (f : ℕ) (η : List values.Value) (r : program.Ref) (K : List Frame) (A : List Saved) (R : List ℕ) → now (m .entry) ≡ core f η (wait r ∷ K) A ++ R → Tells s h f (wait r ∷ K) A → Comes s a (now (m .entry)) (now (m .exit)) R (running (machine.exec r) calm f η K A)) ⌝ }
+    ensures { λ a. ⌜ ((s : List ℕ) (f : ℕ) (η : List values.Value) (r : program.Ref) (K : List Frame) (A : List Saved) (R : List ℕ) → now (m .entry) ≡ core f η (wait r ∷ K) A ++ R → Describes s h f (wait r ∷ K) A → StepsTo s a (now (m .entry)) (now (m .exit)) R (running (machine.exec r) emptyEnv f η K A)) ⌝ }
 {
     let frames = h.frames - 1;
     let word = state_words::frames::frame_word(m, h.under + frames, 1);
@@ -51,10 +51,10 @@ fn resume(m: &mut [u32], h: Head) -> Stepped
 }
 
 // Executes the statement at node i.
-fn execute_node(part: &[u8], m: &mut [u32], h: Head, i: u32) -> Stepped
+fn execute_node(part: &[u8], m: &mut [u32], h: Registers, i: u32) -> Stepped
     requires { ⌜ Bounds h (now m) × (12 * i + 12 ≤ length (now part)) × (i < 4096) × (0 < i) × (7 ≤ kindAt (now part) i) × (kindAt (now part) i ≤ 14) ⌝ }
     requires variable { ⌜ (kindAt (now part) i ≡ 9 → bAt (now part) i < 64) ⌝ }
-    ensures { λ r. ⌜ ((s : List ℕ) (f : ℕ) (η : List values.Value) (K : List Frame) (A : List Saved) (R : List ℕ) → now (m .entry) ≡ core f η K A ++ R → Tells s h f K A → checkOf s ≡ accepted → now (part .entry) ≡ partOf s f → Fit (programOf s) (running (machine.exec (program.node i)) calm f η K A) → Done s r (now (m .entry)) (now (m .exit)) R (next.runs (programOf s) (formAt (now (part .entry)) i) calm f η K A)) ⌝ }
+    ensures { λ r. ⌜ ((s : List ℕ) (f : ℕ) (η : List values.Value) (K : List Frame) (A : List Saved) (R : List ℕ) → now (m .entry) ≡ core f η K A ++ R → Describes s h f K A → checkOf s ≡ accepted → now (part .entry) ≡ partOf s f → Fit (programOf s) (running (machine.exec (program.node i)) emptyEnv f η K A) → StepsBy s r (now (m .entry)) (now (m .exit)) R (next.runs (programOf s) (formAt (now (part .entry)) i) emptyEnv f η K A)) ⌝ }
 {
     let at = i as usize;
     let last = at - 1;
@@ -73,7 +73,7 @@ fn execute_node(part: &[u8], m: &mut [u32], h: Head, i: u32) -> Stepped
             0,
             run_rules::gathering::reach(part, last as u32),
         ),
-        9 => run_rules::put(
+        9 => run_rules::store_variable(
             m,
             h,
             b_at(part, at),
@@ -108,9 +108,9 @@ fn execute_node(part: &[u8], m: &mut [u32], h: Head, i: u32) -> Stepped
 }
 
 // Executes the if that the while at node w equals, or the seq in it.
-fn execute_loop(part: &[u8], m: &mut [u32], h: Head, w: u32, inner: bool) -> Stepped
+fn execute_loop(part: &[u8], m: &mut [u32], h: Registers, w: u32, inner: bool) -> Stepped
     requires { ⌜ Bounds h (now m) × (12 * w + 12 ≤ length (now part)) × (w < 4096) × (0 < w) ⌝ }
-    ensures { λ r. ⌜ ((s : List ℕ) (f : ℕ) (η : List values.Value) (K : List Frame) (A : List Saved) (R : List ℕ) → now (m .entry) ≡ core f η K A ++ R → Tells s h f K A → now (part .entry) ≡ partOf s f → kindAt (now (part .entry)) w ≡ 11 → Done s r (now (m .entry)) (now (m .exit)) R (next.runs (programOf s) (seeAt (now (part .entry)) (inLoop inner w)) calm f η K A)) ⌝ }
+    ensures { λ r. ⌜ ((s : List ℕ) (f : ℕ) (η : List values.Value) (K : List Frame) (A : List Saved) (R : List ℕ) → now (m .entry) ≡ core f η K A ++ R → Describes s h f K A → now (part .entry) ≡ partOf s f → kindAt (now (part .entry)) w ≡ 11 → StepsBy s r (now (m .entry)) (now (m .exit)) R (next.runs (programOf s) (seeAt (now (part .entry)) (inLoop inner w)) emptyEnv f η K A)) ⌝ }
 {
     let last = w as usize - 1;
     if inner {
@@ -135,10 +135,10 @@ fn execute_loop(part: &[u8], m: &mut [u32], h: Head, w: u32, inner: bool) -> Ste
 }
 
 // Executes the statement of a word.
-pub fn execute(part: &[u8], m: &mut [u32], h: Head, r: u32) -> Stepped
+pub fn execute(part: &[u8], m: &mut [u32], h: Registers, r: u32) -> Stepped
     requires { ⌜ Bounds h (now m) × Executes (now part) (refOf r) ⌝ }
     requires waits { ⌜ (refOf r ≡ program.Ref.nop → 1 ≤ h .frames) ⌝ }
-    ensures { λ a. ⌜ ((s : List ℕ) (f : ℕ) (η : List values.Value) (K : List Frame) (A : List Saved) (R : List ℕ) → now (m .entry) ≡ core f η K A ++ R → Tells s h f K A → checkOf s ≡ accepted → now (part .entry) ≡ partOf s f → Fit (programOf s) (running (machine.exec (refOf r)) calm f η K A) → Done s a (now (m .entry)) (now (m .exit)) R (next.runs (programOf s) (seeAt (now (part .entry)) (refOf r)) calm f η K A)) ⌝ }
+    ensures { λ a. ⌜ ((s : List ℕ) (f : ℕ) (η : List values.Value) (K : List Frame) (A : List Saved) (R : List ℕ) → now (m .entry) ≡ core f η K A ++ R → Describes s h f K A → checkOf s ≡ accepted → now (part .entry) ≡ partOf s f → Fit (programOf s) (running (machine.exec (refOf r)) emptyEnv f η K A) → StepsBy s a (now (m .entry)) (now (m .exit)) R (next.runs (programOf s) (seeAt (now (part .entry)) (refOf r)) emptyEnv f η K A)) ⌝ }
 {
     if r == 0 {
         return resume(m, h);

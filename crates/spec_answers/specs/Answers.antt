@@ -6,9 +6,9 @@ use Prim.Native.Nat.{ℕ}
 use lib.Dec.{leb}
 use lib.ListN.{length, drop}
 use Rattle.records.specs.Search.{unless}
-use Rattle.spec_language.specs.Check.{Verdict, accepted, refused, ask, Asked, questions, put}
+use Rattle.spec_language.specs.Check.{Verdict, accepted, refused, ask, Asked, questions, firstRefusal}
 use Rattle.spec_machine.specs.Values.{Value, nothing}
-use Rattle.spec_machine.specs.Machine.{State, main, calm}
+use Rattle.spec_machine.specs.Machine.{State, main, emptyEnv}
 use Rattle.spec_machine.specs.Run.{Ran, runOf, lookUp}
 use Rattle.spec_machine.specs.File.{programOf}
 use Rattle.spec_image.specs.Image.{image}
@@ -24,34 +24,34 @@ unfoldable pub imageIn : List ℕ → List ℕ → Asked
 imageIn s m = ask 16 (unless (fitWords (programOf s) m) 0)
 
 -- whether there is a value
-abbrev pub given : Option Value → Bool
-given none = false
-given (some v) = true
+abbrev pub isPresent : Option Value → Bool
+isPresent none = false
+isPresent (some v) = true
 
 -- 17: does the current activation have that variable?
 unfoldable pub variableIn : List ℕ → ℕ → Asked
-variableIn m x = ask 17 (unless (given (lookUp (stateOf m) x)) 0)
+variableIn m x = ask 17 (unless (isPresent (lookUp (stateOf m) x)) 0)
 
 -- start puts questions 1 to 15
 unfoldable pub startAnswer : List ℕ → List ℕ → Verdict
-startAnswer s m = put (questions s ++ (roomFor m ∷ []))
+startAnswer s m = firstRefusal (questions s ++ (roomFor m ∷ []))
 
 -- run and memory check put 1 to 16
 unfoldable pub memoryAnswer : List ℕ → List ℕ → Verdict
-memoryAnswer s m = put (questions s ++ (roomFor m ∷ imageIn s m ∷ []))
+memoryAnswer s m = firstRefusal (questions s ++ (roomFor m ∷ imageIn s m ∷ []))
 
 -- look-up puts 1 to 17
 unfoldable pub lookVerdict : List ℕ → List ℕ → ℕ → Verdict
-lookVerdict s m x = put (questions s ++ (roomFor m ∷ imageIn s m ∷ variableIn m x ∷ []))
+lookVerdict s m x = firstRefusal (questions s ++ (roomFor m ∷ imageIn s m ∷ variableIn m x ∷ []))
 
 -- what an accepted call tells, or the refusal's number, place and item
-pub data Told (A : Type 0) : Type 0 where
-  told : A → Told A
-  turned : ℕ → ℕ → ℕ → Told A
+pub data Result (A : Type 0) : Type 0 where
+  granted : A → Result A
+  denied : ℕ → ℕ → ℕ → Result A
 
-unfoldable pub answered : {A : Type 0} → Verdict → A → Told A
-answered accepted a = told a
-answered (refused q place item) a = turned q place item
+unfoldable pub byVerdict : {A : Type 0} → Verdict → A → Result A
+byVerdict accepted a = granted a
+byVerdict (refused q place item) a = denied q place item
 
 -- the memory with the image of a state in its first words, where the call was accepted; else as it was
 unfoldable pub written : Verdict → List ℕ → State → List ℕ
@@ -60,15 +60,15 @@ written (refused q place item) m s = m
 
 -- an accepted start writes main() with nothing waiting
 unfoldable pub startMemory : List ℕ → List ℕ → List ℕ
-startMemory s m = written (startAnswer s m) m (main calm)
+startMemory s m = written (startAnswer s m) m (main emptyEnv)
 
 -- the run of the state in the memory, with an allowance
 unfoldable pub runFrom : List ℕ → List ℕ → ℕ → Ran
 runFrom s m a = runOf (programOf s) a (stateOf m)
 
 -- an accepted run tells its outcome and its steps, and leaves the state that it stopped at
-unfoldable pub runAnswer : List ℕ → List ℕ → ℕ → Told Ran
-runAnswer s m a = answered (memoryAnswer s m) (runFrom s m a)
+unfoldable pub runAnswer : List ℕ → List ℕ → ℕ → Result Ran
+runAnswer s m a = byVerdict (memoryAnswer s m) (runFrom s m a)
 
 unfoldable pub runMemory : List ℕ → List ℕ → ℕ → List ℕ
 runMemory s m a = written (memoryAnswer s m) m (runFrom s m a .state)
@@ -79,5 +79,5 @@ valueOr none = nothing
 valueOr (some v) = v
 
 -- an accepted look-up tells what the variable holds
-unfoldable pub lookAnswer : List ℕ → List ℕ → ℕ → Told Value
-lookAnswer s m x = answered (lookVerdict s m x) (valueOr (lookUp (stateOf m) x))
+unfoldable pub lookAnswer : List ℕ → List ℕ → ℕ → Result Value
+lookAnswer s m x = byVerdict (lookVerdict s m x) (valueOr (lookUp (stateOf m) x))

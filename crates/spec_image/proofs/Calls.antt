@@ -7,13 +7,13 @@ use native.Mathlib.Omega.{arith}
 use lib.ListN.{length, getD, set, take, drop, replicate, length-append, length-replicate, replicate-append-replicate}
 use Rattle.words.specs.Blocks.{puts}
 use Rattle.spec_machine.specs.Values.{Value, nothing, Ty}
-use Rattle.spec_machine.specs.Program.{Head}
+use Rattle.spec_machine.specs.Program.{Operation}
 use Rattle.spec_machine.specs.Machine.{Frame, gather, Saved, saved, blank}
 use Rattle.spec_image.specs.Layout.{filled, valueWords, valuesWords, Activation, activation, activationWords}
 use Rattle.spec_image.specs.Image.{savedActivations, savedFrames}
 use Rattle.spec_image.specs.Core.{core}
 use Rattle.spec_image.proofs.Images.{length-saved}
-use Rattle.spec_image.proofs.Slots.{values-one, blank-values}
+use Rattle.spec_image.proofs.SlotWords.{values-one, blank-values}
 use Rattle.spec_image.proofs.Rooms.{rooms, filled-is, frame-pop, frame-part, frames-pop, activation-push, activation-pop, caller-word}
 use Rattle.spec_image.proofs.Frames.{core-rooms, pop-frame}
 use Rattle.spec_image.proofs.Operands.{gather-values}
@@ -57,7 +57,7 @@ module _ (H R : List ℕ) (X : List Activation) (F : List Frame) (head : length 
 
 module _ (H R : List ℕ) (X : List Activation) (F : List Frame) (head : length H ≡ 128) (a : ℕ) (count : a ≡ length X) where
   -- its first variables get the values in the top frame and one at hand, and the frame is taken off
-  rooms-copied : (g : ℕ) (h : Head) (vs : List Value) (v : Value) (c l w here s n at : ℕ) → a < 32 → c ≤ 64 → c ≡ length vs + suc l → length vs ≤ 7
+  rooms-copied : (g : ℕ) (h : Operation) (vs : List Value) (v : Value) (c l w here s n at : ℕ) → a < 32 → c ≤ 64 → c ≡ length vs + suc l → length vs ≤ 7
       → w ≡ length vs * 2 → here ≡ 128 + a * 136 → s ≡ here + (8 + length vs * 2) → n ≡ length F → at ≡ 4480 + n * 20 → n < 512
       → let m = rooms H (activation g 0 (replicate c nothing) ∷ X) (gather h vs [] ∷ F) ++ R in
       puts (puts (puts m (here + 8) 0 (take w (drop (at + 4) m))) s 0 (valueWords v)) at 0 (replicate 20 0)
@@ -114,7 +114,7 @@ module _ (f : ℕ) (η : List Value) (K : List Frame) (A : List Saved) (R : List
           (omega (arith, count, length-saved A)) g us c l e short)
 
       -- with arguments copied from the frame, and the last one at hand: the frame is taken off last
-      pub enter-copy : (h : Head) (vs : List Value) (v : Value) (l w s : ℕ) → c ≡ length vs + suc l → length vs ≤ 7 → w ≡ length vs * 2
+      pub enter-copy : (h : Operation) (vs : List Value) (v : Value) (l w s : ℕ) → c ≡ length vs + suc l → length vs ≤ 7 → w ≡ length vs * 2
           → s ≡ here + (8 + length vs * 2) → let m = puts (set (core f η (gather h vs [] ∷ K) A ++ R) b k) here 0 (g ∷ 0 ∷ c ∷ []) in
           puts (puts (puts m (here + 8) 0 (take w (drop (at + 4) m))) s 0 (valueWords v)) at 0 (replicate 20 0)
           ≡ core g ((vs ++ (v ∷ [])) ++ replicate l nothing) [] (saved f η K ∷ A) ++ R

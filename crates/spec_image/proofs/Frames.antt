@@ -6,24 +6,24 @@ use native.Mathlib.Omega.{arith}
 use lib.ListN.{length, getD, replicate, length-replicate}
 use Rattle.words.specs.Blocks.{puts}
 use Rattle.spec_machine.specs.Values.{Value}
-use Rattle.spec_machine.specs.Program.{Head, op, fn}
+use Rattle.spec_machine.specs.Program.{Operation, op, fn}
 use Rattle.spec_machine.specs.Machine.{Frame, gather, and, wait, branch, check, Saved}
 use Rattle.spec_image.specs.Layout.{filled, valuesWords, nodesWords, refWord, block, gathering, frameWords, activation}
 use Rattle.spec_image.specs.Image.{savedActivations, savedFrames}
 use Rattle.spec_image.specs.Decode.{refOf}
 use Rattle.spec_image.specs.Core.{core}
-use Rattle.spec_image.proofs.Parts.{ref-back, length-nodes}
+use Rattle.spec_image.proofs.ValueWords.{ref-back, length-nodes}
 use Rattle.spec_image.proofs.Images.{length-saved}
 use Rattle.spec_image.proofs.Rooms.{rooms, frame-push, frame-pop, frame-word, frame-change}
 
 -- ---- what the words of a frame are
 
 -- the kind and the word of what gathers operands
-abbrev pub headKind : Head → ℕ
+abbrev pub headKind : Operation → ℕ
 headKind (op o) = 1
 headKind (fn g) = 2
 
-abbrev pub headWord : Head → ℕ
+abbrev pub headWord : Operation → ℕ
 headWord (op o) = o
 headWord (fn g) = g
 
@@ -147,7 +147,7 @@ module _ (f : ℕ) (η : List Value) (K : List Frame) (A : List Saved) (R : List
       (frame-words fr ∙ rw (v, s))
 
   -- a frame that gathers, with the nodes that wait
-  pub push-gather : (h : Head) (ns : List ℕ) → n < 512 → length ns ≤ 7
+  pub push-gather : (h : Operation) (ns : List ℕ) → n < 512 → length ns ≤ 7
       → puts (core f η K A ++ R) at 0 (headKind h ∷ headWord h ∷ 0 ∷ length ns ∷ nodesWords ns) ≡ core f η (gather h [] ns ∷ K) A ++ R
   unfolding valuesWords
   push-gather h ns room short =

@@ -8,11 +8,11 @@ use Rattle.words.specs.Blocks.{puts}
 use Rattle.words.specs.Stacks.{region}
 use Rattle.words.proofs.Blocks.{puts-block, puts-inside}
 use Rattle.spec_machine.specs.Values.{Value, nothing, int, truth}
-use Rattle.spec_machine.specs.Machine.{Exception, abort, Frame, Control, val, eval, exec, Saved, Ambient, State, exception, main, returned, running}
+use Rattle.spec_machine.specs.Machine.{Exception, abort, Frame, Control, val, eval, exec, Saved, RunEnv, State, exception, main, returned, running}
 use Rattle.spec_image.specs.Layout.{filled, frameWords, controlWords, Activation, activation, activationWords}
 use Rattle.spec_image.specs.Image.{savedActivations, savedFrames, headWords, activationsOf, framesOf, image}
 use Rattle.spec_image.specs.Core.{core}
-use Rattle.spec_image.proofs.Blocks.{length-filled}
+use Rattle.spec_image.proofs.BlockLengths.{length-filled}
 use Rattle.spec_image.proofs.Images.{length-saved, head-word}
 use Rattle.spec_image.proofs.Rooms.{rooms, filled-is, length-rooms, activations-open, activation-word}
 use Rattle.spec_image.proofs.Frames.{core-rooms}
@@ -61,12 +61,12 @@ length-control (eval n) = refl
 length-control (exec r) = refl
 
 -- one word of its head
-pub running-word : (c : Control) (α : Ambient) (f : ℕ) (η : List Value) (K : List Frame) (A : List Saved) (R : List ℕ) (j : ℕ) → j < 128
+pub running-word : (c : Control) (α : RunEnv) (f : ℕ) (η : List Value) (K : List Frame) (A : List Saved) (R : List ℕ) (j : ℕ) → j < 128
     → getD (image (running c α f η K A) ++ R) j 0 ≡ getD (2 ∷ 0 ∷ suc (length A) ∷ controlWords c) j 0
 unfolding headWords
 running-word c α f η K A R j h = head-word (running c α f η K A) R j h
 
-module _ (c : Control) (α : Ambient) (f : ℕ) (η : List Value) (K : List Frame) (A : List Saved) (R : List ℕ) (a b : ℕ)
+module _ (c : Control) (α : RunEnv) (f : ℕ) (η : List Value) (K : List Frame) (A : List Saved) (R : List ℕ) (a b : ℕ)
     (count : a ≡ length A) (place : b ≡ 128 + a * 136 + 1) where
   known : a ≡ length (savedActivations A)
   known = count ∙ sym (length-saved A)

@@ -11,15 +11,15 @@ use Rattle.words.specs.Segments.{total}
 use Rattle.words.proofs.Stacks.{every, length-region}
 use Rattle.words.proofs.Entries.{entries-region}
 use Rattle.spec_machine.specs.Values.{Value}
-use Rattle.spec_machine.specs.Machine.{Exception, abort, Frame, Control, Saved, saved, calm, State, exception, main, returned, running}
+use Rattle.spec_machine.specs.Machine.{Exception, abort, Frame, Control, Saved, saved, emptyEnv, State, exception, main, returned, running}
 use Rattle.spec_machine.specs.Fit as fit
-use Rattle.spec_machine.specs.Fit.{Within, callerLimit, frameLimit}
+use Rattle.spec_machine.specs.Fit.{WithinLimits, callerLimit, frameLimit}
 use Rattle.spec_image.specs.Layout.{filled, frameWords, activationWords}
 use Rattle.spec_image.specs.Image.{savedActivations, savedFrames, headWords, activationsOf, framesOf, image}
 use Rattle.spec_image.specs.Decode.{frameOf, controlOf, activationOf, framesHeld, callersOf, runningOf, activationsIn, framesIn, states, stateOf}
 use Rattle.spec_image.specs.Narrow.{NarrowFrame, NarrowActivation, Narrow}
-use Rattle.spec_image.proofs.Parts.{control-back}
-use Rattle.spec_image.proofs.Blocks.{length-filled, filled-at, frame-wide, frame-back, activation-wide, activation-back, every-so}
+use Rattle.spec_image.proofs.ValueWords.{control-back}
+use Rattle.spec_image.proofs.BlockLengths.{length-filled, filled-at, frame-wide, frame-back, activation-wide, activation-back, every-so}
 
 -- ---- sizes
 
@@ -35,12 +35,12 @@ unfolding savedActivations
 length-saved [] = refl
 length-saved (saved g θ L ∷ A) = ap suc (length-saved A)
 
-pub length-frames : (A : List Saved) → length (savedFrames A) ≡ fit.savedFrames A
+pub length-frames : (A : List Saved) → length (savedFrames A) ≡ fit.savedFrameCount A
 unfolding savedFrames
 length-frames [] = refl
 length-frames (saved g θ L ∷ A) = simp (length-append, length-frames A)
 
-pub few-activations : (s : State) → Within s → length (activationsOf s) ≤ 32
+pub few-activations : (s : State) → WithinLimits s → length (activationsOf s) ≤ 32
 unfolding activationsOf
 few-activations (State.value c) w = omega arith
 few-activations (exception x) w = omega arith
@@ -48,7 +48,7 @@ few-activations (main α) w = omega arith
 few-activations (returned α c) w = omega arith
 few-activations (running c α f η K A) w = omega (arith, w .0, callers-room, length-saved A)
 
-pub few-frames : (s : State) → Within s → length (framesOf s) ≤ 512
+pub few-frames : (s : State) → WithinLimits s → length (framesOf s) ≤ 512
 unfolding framesOf
 few-frames (State.value c) w = omega arith
 few-frames (exception x) w = omega arith
@@ -81,13 +81,13 @@ module _ (s : State) where
   abbrev pub frameRoom : List ℕ
   frameRoom = region 20 frameWords 512 (framesOf s)
 
-  pub length-activations : Within s → length activationRoom ≡ 4352
+  pub length-activations : WithinLimits s → length activationRoom ≡ 4352
   length-activations w = length-region 136 activationWords 32 (activationsOf s) (every (Wide 136 activationWords) activation-wide (activationsOf s)) (few-activations s w)
 
-  pub length-stack : Within s → length frameRoom ≡ 10240
+  pub length-stack : WithinLimits s → length frameRoom ≡ 10240
   length-stack w = length-region 20 frameWords 512 (framesOf s) (every (Wide 20 frameWords) frame-wide (framesOf s)) (few-frames s w)
 
-  pub image-length : Within s → length (image s) ≡ 16384
+  pub image-length : WithinLimits s → length (image s) ≡ 16384
   unfolding image
   image-length w =
       omega (
@@ -131,7 +131,7 @@ module _ (s : State) (R : List ℕ) (n : Narrow s) where
       (every (Wide 136 activationWords) activation-wide (activationsOf s))
       (every-so NarrowActivation (Back activationWords activationOf) activation-back (activationsOf s) (n .activations)))
 
-  pub frames-in : Within s → framesIn (image s ++ R) ≡ framesOf s
+  pub frames-in : WithinLimits s → framesIn (image s ++ R) ≡ framesOf s
   unfolding framesIn
   frames-in w =
       let H = filled 128 (headWords s) ++ activationRoom s in
@@ -148,11 +148,11 @@ unfolding callersOf savedActivations savedFrames
 callers-back [] = refl
 callers-back (saved g θ L ∷ A) = rw (take-at L (savedFrames A) (length L) refl, drop-at L (savedFrames A) (length L) refl, callers-back A)
 
-running-back : (c : Control) (f : ℕ) (η : List Value) (K : List Frame) (A : List Saved) (R : List ℕ) → let s = running c calm f η K A in
-    Within s → Narrow s → let m = image s ++ R in runningOf (controlOf (getD m 3 0) (getD m 4 0)) (activationsIn m) (framesIn m) ≡ s
+running-back : (c : Control) (f : ℕ) (η : List Value) (K : List Frame) (A : List Saved) (R : List ℕ) → let s = running c emptyEnv f η K A in
+    WithinLimits s → Narrow s → let m = image s ++ R in runningOf (controlOf (getD m 3 0) (getD m 4 0)) (activationsIn m) (framesIn m) ≡ s
 unfolding runningOf headWords activationsOf framesOf
 running-back c f η K A R w n =
-    let s = running c calm f η K A in
+    let s = running c emptyEnv f η K A in
     rw (
       activations-in s R n,
       frames-in s R n w,
@@ -165,17 +165,17 @@ running-back c f η K A R w n =
     )
 
 -- the state is read back from its image, whatever follows it
-pub decode-image : (s : State) → Within s → Narrow s → (R : List ℕ) → stateOf (image s ++ R) ≡ s
+pub decode-image : (s : State) → WithinLimits s → Narrow s → (R : List ℕ) → stateOf (image s ++ R) ≡ s
 unfolding stateOf states headWords
 decode-image (State.value c) w n R = rw (head-word (State.value c) R 0 (omega arith), head-word (State.value c) R 1 (omega arith))
 decode-image (exception Exception.arith) w n R = rw (head-word (exception Exception.arith) R 0 (omega arith))
 decode-image (exception abort) w n R = rw (head-word (exception abort) R 0 (omega arith))
-decode-image (main calm) w n R = rw (head-word (main calm) R 0 (omega arith))
-decode-image (returned calm c) w n R = rw (head-word (returned calm c) R 0 (omega arith), head-word (returned calm c) R 1 (omega arith))
-decode-image (running c calm f η K A) w n R = rw (head-word (running c calm f η K A) R 0 (omega arith)) (running-back c f η K A R w n)
+decode-image (main emptyEnv) w n R = rw (head-word (main emptyEnv) R 0 (omega arith))
+decode-image (returned emptyEnv c) w n R = rw (head-word (returned emptyEnv c) R 0 (omega arith), head-word (returned emptyEnv c) R 1 (omega arith))
+decode-image (running c emptyEnv f η K A) w n R = rw (head-word (running c emptyEnv f η K A) R 0 (omega arith)) (running-back c f η K A R w n)
 
 -- states within the limits, and narrow, with one image are one state
-pub image-inj : (s t : State) → Within s → Narrow s → Within t → Narrow t → image s ≡ image t → s ≡ t
+pub image-inj : (s t : State) → WithinLimits s → Narrow s → WithinLimits t → Narrow t → image s ≡ image t → s ≡ t
 image-inj s t w n v k e = sym (decode-image s w n []) ∙ rw e (decode-image t v k [])
 
 -- the first word of an image is not zero

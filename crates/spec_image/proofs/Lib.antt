@@ -1,7 +1,7 @@
-pub mod Parts
-pub mod Blocks
+pub mod ValueWords
+pub mod BlockLengths
 pub mod Images
-pub mod Slots
+pub mod SlotWords
 pub mod Rooms
 pub mod Frames
 pub mod Operands

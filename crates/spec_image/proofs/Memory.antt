@@ -11,13 +11,13 @@ use Rattle.words.proofs.Tests.{same-eq, eq-same}
 use Rattle.records.proofs.Bools.{and-left, and-right}
 use Rattle.spec_machine.specs.Program.{Program}
 use Rattle.spec_machine.specs.Machine.{State}
-use Rattle.spec_machine.specs.Fit.{Within, Fit}
+use Rattle.spec_machine.specs.Fit.{WithinLimits, Fit}
 use Rattle.spec_machine.proofs.Says.{Says}
 use Rattle.spec_machine.proofs.Tests.{fit-says}
 use Rattle.spec_image.specs.Image.{image}
 use Rattle.spec_image.specs.Decode.{stateOf}
 use Rattle.spec_image.specs.Memory.{size, Holds, fitWords}
-use Rattle.spec_image.proofs.Blocks.{zeros-at}
+use Rattle.spec_image.proofs.BlockLengths.{zeros-at}
 use Rattle.spec_image.specs.Narrow.{Narrow}
 use Rattle.spec_image.proofs.Images.{image-length, decode-image, image-inj, marked}
 use Rattle.spec_image.proofs.Sized.{Sized, fit-narrow}
@@ -26,15 +26,15 @@ use Rattle.spec_image.proofs.Sized.{Sized, fit-narrow}
 pub held-whole : (m : List ℕ) (s : State) → Holds m s → m ≡ image s ++ drop size m
 held-whole m s h = sym (take-append-drop size m) ∙ rw h
 
-pub held-length : (m : List ℕ) (s : State) → Within s → Holds m s → size ≤ length m
+pub held-length : (m : List ℕ) (s : State) → WithinLimits s → Holds m s → size ≤ length m
 held-length m s w h = omega (arith, sym (length-take size m) ∙ ap length h ∙ image-length s w)
 
 -- an image and what follows it hold the state
-pub whole-held : (s : State) (R : List ℕ) → Within s → Holds (image s ++ R) s × (drop size (image s ++ R) ≡ R)
+pub whole-held : (s : State) (R : List ℕ) → WithinLimits s → Holds (image s ++ R) s × (drop size (image s ++ R) ≡ R)
 whole-held s R w = (take-at (image s) R size (image-length s w), drop-at (image s) R size (image-length s w))
 
 -- the state that a memory holds is the state that its words stand for
-pub held-state : (m : List ℕ) (s : State) → Within s → Narrow s → Holds m s → stateOf m ≡ s
+pub held-state : (m : List ℕ) (s : State) → WithinLimits s → Narrow s → Holds m s → stateOf m ≡ s
 held-state m s w n h = ap stateOf (held-whole m s h) ∙ decode-image s w n (drop size m)
 
 -- zeros hold no state

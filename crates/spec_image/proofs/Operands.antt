@@ -9,21 +9,21 @@ use lib.Seq.{take-at}
 use Rattle.words.specs.Blocks.{puts}
 use Rattle.words.proofs.Blocks.{puts-block, getD-block, set-block}
 use Rattle.spec_machine.specs.Values.{Value, nothing}
-use Rattle.spec_machine.specs.Program.{Head}
+use Rattle.spec_machine.specs.Program.{Operation}
 use Rattle.spec_machine.specs.Machine.{Frame, gather, Saved}
 use Rattle.spec_image.specs.Layout.{filled, valueWords, valuesWords, nodesWords, frameWords}
 use Rattle.spec_image.specs.Image.{savedFrames}
 use Rattle.spec_image.specs.Decode.{valueOf}
 use Rattle.spec_image.specs.Core.{core}
-use Rattle.spec_image.proofs.Parts.{value-back, length-values, length-nodes}
-use Rattle.spec_image.proofs.Slots.{puts-from, length-value, values-append, values-one, values-at, nodes-at, nodes-set, blank-nodes}
+use Rattle.spec_image.proofs.ValueWords.{value-back, length-values, length-nodes}
+use Rattle.spec_image.proofs.SlotWords.{puts-from, length-value, values-append, values-one, values-at, nodes-at, nodes-set, blank-nodes}
 use Rattle.spec_image.proofs.Rooms.{filled-is}
 use Rattle.spec_image.proofs.Frames.{headKind, headWord, frame-words, push-frame, top-word, change-frame}
 
 -- ---- the words of a frame that gathers
 
 -- the first four words, the values, the nodes, zeros
-pub gather-words : (h : Head) (vs : List Value) (ns : List ℕ) → length vs + length ns ≤ 7
+pub gather-words : (h : Operation) (vs : List Value) (ns : List ℕ) → length vs + length ns ≤ 7
     → frameWords (gather h vs ns)
     ≡ headKind h ∷ headWord h ∷ length vs ∷ length ns ∷ valuesWords vs ++ (nodesWords ns ++ replicate (16 - 2 * (length vs + length ns)) 0)
 gather-words h vs ns q =
@@ -34,12 +34,12 @@ gather-words h vs ns q =
     frame-words (gather h vs ns) ∙ filled-is 20 l n ∙ rw (e, append-assoc (valuesWords vs) (nodesWords ns))
 
 -- the words of its values
-pub gather-values : (h : Head) (vs : List Value) (ns : List ℕ) → length vs + length ns ≤ 7
+pub gather-values : (h : Operation) (vs : List Value) (ns : List ℕ) → length vs + length ns ≤ 7
     → take (2 * length vs) (drop 4 (frameWords (gather h vs ns))) ≡ valuesWords vs
 gather-values h vs ns q = rw (gather-words h vs ns q) (take-at (valuesWords vs) _ (2 * length vs) (length-values vs))
 
 -- a word of value k
-value-word : (h : Head) (vs : List Value) (ns : List ℕ) → length vs + length ns ≤ 7 → (k j : ℕ) → k < length vs → j < 2
+value-word : (h : Operation) (vs : List Value) (ns : List ℕ) → length vs + length ns ≤ 7 → (k j : ℕ) → k < length vs → j < 2
     → getD (frameWords (gather h vs ns)) (4 + (2 * k + j)) 0 ≡ getD (valueWords (getD vs k nothing)) j 0
 value-word h vs ns q k j hk hj =
     rw (gather-words h vs ns q)
@@ -47,7 +47,7 @@ value-word h vs ns q k j hk hj =
     ∙ values-at vs k j hk hj)
 
 -- node k
-node-word : (h : Head) (vs : List Value) (ns : List ℕ) → length vs + length ns ≤ 7 → (k : ℕ) → k < length ns
+node-word : (h : Operation) (vs : List Value) (ns : List ℕ) → length vs + length ns ≤ 7 → (k : ℕ) → k < length ns
     → getD (frameWords (gather h vs ns)) (4 + 2 * length vs + 2 * k) 0 ≡ getD ns k 0
 node-word h vs ns q k hk =
     let p = headKind h ∷ headWord h ∷ length vs ∷ length ns ∷ valuesWords vs in
@@ -56,7 +56,7 @@ node-word h vs ns q k hk =
     (getD-block p (nodesWords ns) _ (4 + 2 * length vs) (2 * k) n (omega (arith, length-nodes ns)) ∙ nodes-at ns k)
 
 -- the value of the node that waits first takes its slot
-operand-stored : (h : Head) (vs : List Value) (e : ℕ) (ns : List ℕ) (v : Value) → length vs + suc (length ns) ≤ 7
+operand-stored : (h : Operation) (vs : List Value) (e : ℕ) (ns : List ℕ) (v : Value) → length vs + suc (length ns) ≤ 7
     → puts (puts (frameWords (gather h vs (e ∷ ns))) (4 + 2 * length vs) 0 (valueWords v)) 2 0 ((length vs + 1) ∷ length ns ∷ [])
     ≡ frameWords (gather h (vs ++ (v ∷ [])) ns)
 unfolding nodesWords
@@ -73,7 +73,7 @@ operand-stored h vs e ns v q =
     rw (gather-words h vs (e ∷ ns) q, gather-words h (vs ++ (v ∷ [])) ns r, t, i, w, m, append-assoc (valuesWords vs) (valueWords v) (nodesWords ns ++ z))
 
 -- with nodes that are not stored yet
-pub waiting-words : (h : Head) (m : ℕ) → m ≤ 7 → frameWords (gather h [] (replicate m 0)) ≡ filled 20 (headKind h ∷ headWord h ∷ 0 ∷ m ∷ [])
+pub waiting-words : (h : Operation) (m : ℕ) → m ≤ 7 → frameWords (gather h [] (replicate m 0)) ≡ filled 20 (headKind h ∷ headWord h ∷ 0 ∷ m ∷ [])
 unfolding valuesWords
 waiting-words h m q =
     let n : length (replicate {A = ℕ} m 0) ≡ m = length-replicate m 0 in
@@ -82,7 +82,7 @@ waiting-words h m q =
     = replicate-append-replicate (2 * m) (16 - 2 * (0 + m)) 0 ∙ ap (λ (k : ℕ). replicate {A = ℕ} k 0) i in
     gather-words h [] (replicate m 0) (omega arith) ∙ rw (n, blank-nodes m, z) (sym (filled-is 20 (headKind h ∷ headWord h ∷ 0 ∷ m ∷ []) (omega arith)))
 
-node-stored : (h : Head) (ns : List ℕ) (k e : ℕ) → k < length ns → length ns ≤ 7
+node-stored : (h : Operation) (ns : List ℕ) (k e : ℕ) → k < length ns → length ns ≤ 7
     → set (frameWords (gather h [] ns)) (4 + 2 * k) e ≡ frameWords (gather h [] (set ns k e))
 unfolding valuesWords
 node-stored h ns k e hk q =
@@ -94,7 +94,7 @@ node-stored h ns k e hk q =
 -- ---- while a state runs
 
 module _ (f : ℕ) (η : List Value) (K : List Frame) (A : List Saved) (R : List ℕ) (n at : ℕ)
-    (few : length A < 32) (count : n ≡ length (K ++ savedFrames A)) (place : at ≡ 4480 + n * 20) (h : Head) where
+    (few : length A < 32) (count : n ≡ length (K ++ savedFrames A)) (place : at ≡ 4480 + n * 20) (h : Operation) where
   module _ (vs : List Value) (ns : List ℕ) (short : length vs + length ns ≤ 7) where
     -- the two words of value k
     pub read-value : (k j b : ℕ) → k < length vs → j < 2 → b ≡ at + (4 + (k * 2 + j))

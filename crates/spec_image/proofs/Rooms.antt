@@ -12,8 +12,8 @@ use Rattle.words.proofs.Blocks.{puts-block, puts-inside, length-puts, getD-bloc
 use Rattle.words.proofs.Stacks.{every, length-words, length-region, pops-law, word-law}
 use Rattle.spec_machine.specs.Machine.{Frame}
 use Rattle.spec_image.specs.Layout.{filled, frameWords, Activation, activationWords}
-use Rattle.spec_image.proofs.Parts.{take-over}
-use Rattle.spec_image.proofs.Blocks.{frame-wide, activation-wide}
+use Rattle.spec_image.proofs.ValueWords.{take-over}
+use Rattle.spec_image.proofs.BlockLengths.{frame-wide, activation-wide}
 
 -- a head, activations in their room, frames in theirs, and zeros
 unfoldable pub rooms : List ℕ → List Activation → List Frame → List ℕ

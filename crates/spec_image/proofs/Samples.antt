@@ -16,10 +16,10 @@ use Rattle.spec_language.specs.Scopes.{declaresAt, declCount, declOf, under, us
 use Rattle.spec_language.specs.Types.{paramType, varType, operatorType, typesOf, typeAt, condition, wantsOf, wantAt, suits, agree}
 use Rattle.arith.specs.Int as ints
 use Rattle.arith.specs.Operators as operators
-use Rattle.spec_machine.specs.File.{backwards, kids, andOf, looks, lookAt, refAt, formOf, formAt, ifForm, seqForm, seeAt, unrolled, looped, stmtAt, typesFrom, funOf, programOf}
+use Rattle.spec_machine.specs.File.{backwards, kids, andForm, looks, lookAt, refAt, formOf, formAt, ifForm, seqForm, seeAt, unrolled, looped, stmtAt, typesFrom, funOf, programOf}
 use Rattle.spec_machine.specs.Values.{Value, nothing, int, truth, result}
 use Rattle.spec_machine.specs.Program.{op, fn, Ref, node, seqOf}
-use Rattle.spec_machine.specs.Machine.{arith, abort, Frame, gather, wait, branch, val, eval, exec, saved, calm, State, exception, main, returned, running}
+use Rattle.spec_machine.specs.Machine.{arith, abort, Frame, gather, wait, branch, val, eval, exec, saved, emptyEnv, State, exception, main, returned, running}
 use Rattle.spec_machine.specs.Run.{runOf}
 use Rattle.spec_machine.proofs.SampleFiles.{sample}
 use Rattle.spec_image.specs.Layout.{filled, bit, valueWords, valuesWords, nodesWords, refWord, block, gathering, frameWords, controlWords, activationWords}
@@ -28,7 +28,7 @@ use Rattle.spec_image.specs.Decode.{valueOf, valuesOf, nodesOf, refOf, o
 
 -- the state after k steps
 abbrev ran : ℕ → State
-ran k = runOf (programOf sample) k (main calm) .state
+ran k = runOf (programOf sample) k (main emptyEnv) .state
 
 abbrev waits : ℕ → Frame
 waits n = wait (node n)
@@ -38,30 +38,30 @@ halfway = int 1 ∷ truth false ∷ []
 
 -- the body of main; an if that a while equals; a call's first operand, and its second
 abbrev body : State
-body = running (exec (node 27)) calm 0 (nothing ∷ nothing ∷ []) [] []
+body = running (exec (node 27)) emptyEnv 0 (nothing ∷ nothing ∷ []) [] []
 
 abbrev pub looping : State
-looping = running (eval 4) calm 0 (int 1 ∷ truth true ∷ []) (branch (seqOf 13) Ref.nop ∷ waits 22 ∷ []) []
+looping = running (eval 4) emptyEnv 0 (int 1 ∷ truth true ∷ []) (branch (seqOf 13) Ref.nop ∷ waits 22 ∷ []) []
 
 abbrev pub first : State
-first = running (eval 14) calm 0 halfway (gather (fn 1) [] (15 ∷ []) ∷ Frame.discard ∷ waits 21 ∷ []) []
+first = running (eval 14) emptyEnv 0 halfway (gather (fn 1) [] (15 ∷ []) ∷ Frame.discard ∷ waits 21 ∷ []) []
 
 abbrev second : State
-second = running (val (truth false)) calm 0 halfway (gather (fn 1) (int 1 ∷ []) [] ∷ Frame.discard ∷ waits 21 ∷ []) []
+second = running (val (truth false)) emptyEnv 0 halfway (gather (fn 1) (int 1 ∷ []) [] ∷ Frame.discard ∷ waits 21 ∷ []) []
 
 -- inside the callee
 abbrev pub inside : State
-inside = running (val (int 5)) calm 1 (int 1 ∷ truth false ∷ nothing ∷ []) (Frame.store 2 ∷ waits 7 ∷ []) (saved 0 halfway (Frame.discard ∷ waits 21 ∷ []) ∷ [])
+inside = running (val (int 5)) emptyEnv 1 (int 1 ∷ truth false ∷ nothing ∷ []) (Frame.store 2 ∷ waits 7 ∷ []) (saved 0 halfway (Frame.discard ∷ waits 21 ∷ []) ∷ [])
 
 -- the sum of the result
 abbrev summing : State
-summing = running (val (int 2)) calm 0 halfway (gather (op 0) (int 1 ∷ []) [] ∷ Frame.leave ∷ []) []
+summing = running (val (int 2)) emptyEnv 0 halfway (gather (op 0) (int 1 ∷ []) [] ∷ Frame.leave ∷ []) []
 
 abbrev along : List State
-along = main calm ∷ body ∷ looping ∷ first ∷ second ∷ inside ∷ summing ∷ returned calm 3 ∷ State.value 3 ∷ []
+along = main emptyEnv ∷ body ∷ looping ∷ first ∷ second ∷ inside ∷ summing ∷ returned emptyEnv 3 ∷ State.value 3 ∷ []
 
 on-the-run : map ran (0 ∷ 1 ∷ 14 ∷ 33 ∷ 36 ∷ 43 ∷ 53 ∷ 55 ∷ 56 ∷ []) ≡ along
-unfolding lowest has none with without both either less below u16At u32At markAt functions nodes resultOf paramsOf varsOf maskOf countOf kindAt aAt bAt sizeAt sumOf startOf partOf firstOf shift orElse firstIn unless arities arityOf arityAt walk children prior last shapes shapeAt readsFrom readsOf grow statementIn statementAt declaresAt declCount declOf under usesVariable paramType varType operatorType typesOf typeAt condition wantsOf wantAt suits agree ints.int ints.wrap operators.addOf operators.subOf operators.mulOf operators.quotOf operators.remOf operators.shlOf operators.shrOf operators.andOf operators.orOf operators.xorOf operators.ltOf operators.leOf operators.gtOf operators.geOf operators.eqOf operators.neOf operators.noQuotient operators.divided operators.shifted operators.results operators.applied backwards kids andOf looks lookAt refAt formOf formAt ifForm seqForm seeAt unrolled looped stmtAt typesFrom funOf programOf result runOf
+unfolding lowest has none with without both either less below u16At u32At markAt functions nodes resultOf paramsOf varsOf maskOf countOf kindAt aAt bAt sizeAt sumOf startOf partOf firstOf shift orElse firstIn unless arities arityOf arityAt walk children prior last shapes shapeAt readsFrom readsOf grow statementIn statementAt declaresAt declCount declOf under usesVariable paramType varType operatorType typesOf typeAt condition wantsOf wantAt suits agree ints.int ints.wrap operators.addOf operators.subOf operators.mulOf operators.quotOf operators.remOf operators.shlOf operators.shrOf operators.andOf operators.orOf operators.xorOf operators.ltOf operators.leOf operators.gtOf operators.geOf operators.eqOf operators.neOf operators.noQuotient operators.divided operators.shifted operators.results operators.applied backwards kids andForm looks lookAt refAt formOf formAt ifForm seqForm seeAt unrolled looped stmtAt typesFrom funOf programOf result runOf
 on-the-run = refl
 
 abbrev finals : List State
@@ -110,7 +110,7 @@ abbrev widest : Frame
 widest = gather (fn 5) (int 4294967295 ∷ truth true ∷ int 0 ∷ []) (9 ∷ 8 ∷ 7 ∷ 6 ∷ [])
 
 abbrev full : State
-full = running (val nothing) calm 5 (replicate 64 (truth true)) (replicate 4 widest) (replicate 3 (saved 127 (replicate 64 (int 7)) (replicate 2 widest)))
+full = running (val nothing) emptyEnv 5 (replicate 64 (truth true)) (replicate 4 widest) (replicate 3 (saved 127 (replicate 64 (int 7)) (replicate 2 widest)))
 
 full-back : stateOf (image full) ≡ full
 unfolding filled bit valueWords valuesWords nodesWords refWord block gathering frameWords controlWords activationWords savedActivations savedFrames headWords activationsOf framesOf image valueOf valuesOf nodesOf refOf operands frames frameOf controlOf activationOf framesHeld callersOf runningOf activationsIn framesIn states stateOf

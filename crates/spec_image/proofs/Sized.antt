@@ -12,9 +12,9 @@ use Rattle.spec_language.proofs.Accept.{accepted-is, function}
 use Rattle.records.specs.Fields.{paramsOf, varsOf, countOf}
 use Rattle.records.specs.Parts.{partOf}
 use Rattle.spec_machine.specs.Values.{Ty, Value, typeV}
-use Rattle.spec_machine.specs.Program.{Head, op, fn, Program, typeN, varTypes, wants, gives}
+use Rattle.spec_machine.specs.Program.{Operation, op, fn, Program, typeN, varTypes, wants, gives}
 use Rattle.spec_machine.specs.Machine.{Frame, gather, and, wait, branch, check, Control, val, eval, exec, Saved, saved, State, exception, main, returned, running}
-use Rattle.spec_machine.specs.Fit.{Known, KnownHead, Holds, TakesNone, Takes, Gives, Callers, Proper, Fit}
+use Rattle.spec_machine.specs.Fit.{HasFunction, KnownOperation, AllHoldTyped, TakesNone, Takes, ControlOver, Callers, Proper, Fit}
 use Rattle.spec_machine.specs.File.{funOf, programOf}
 use Rattle.spec_machine.proofs.Holding.{holds-length}
 use Rattle.spec_machine.proofs.Operands.{types-length}
@@ -24,16 +24,16 @@ use Rattle.spec_image.specs.Narrow.{NarrowFrame, NarrowActivation, Narro
 
 -- at most 8 parameters and 64 variables in a function
 pub record Sized (P : Program) : Type 0 where
-  pub params : (f : ℕ) → Known P f → length (P .fun f .params) ≤ 8
-  pub vars : (f : ℕ) → Known P f → length (varTypes (P .fun f)) ≤ 64
+  pub params : (f : ℕ) → HasFunction P f → length (P .fun f .params) ≤ 8
+  pub vars : (f : ℕ) → HasFunction P f → length (varTypes (P .fun f)) ≤ 64
 
 module _ (P : Program) (z : Sized P) where
-  wants-few : (h : Head) → KnownHead P h → length (wants P h) ≤ 8
+  wants-few : (h : Operation) → KnownOperation P h → length (wants P h) ≤ 8
   wants-few (op o) k = omega arith
   wants-few (fn g) k = z .params g k
 
   -- an operand is at hand, so at most 7 are in the frame
-  operands-few : (f : ℕ) (t : Ty) (h : Head) (vs : List Value) (ns : List ℕ) → KnownHead P h
+  operands-few : (f : ℕ) (t : Ty) (h : Operation) (vs : List Value) (ns : List ℕ) → KnownOperation P h
       → wants P h ≡ map typeV vs ++ (t ∷ map (typeN P f) ns) → length vs + length ns ≤ 7
   operands-few f t h vs ns k e =
       let n : length (wants P h) ≡ length vs + (1 + length ns)
@@ -62,12 +62,12 @@ module _ (P : Program) (z : Sized P) where
   takes-narrow f t (check ∷ K) h = (tt, none-narrow f K (h .1))
   takes-narrow f t (Frame.discard ∷ K) h = (tt, none-narrow f K h)
 
-  gives-narrow : (f : ℕ) (c : Control) (K : List Frame) → Gives P f c K → Every NarrowFrame K
+  gives-narrow : (f : ℕ) (c : Control) (K : List Frame) → ControlOver P f c K → Every NarrowFrame K
   gives-narrow f (val v) K h = takes-narrow f (typeV v) K h
   gives-narrow f (eval n) K h = takes-narrow f (typeN P f n) K (h .2)
   gives-narrow f (exec r) K h = none-narrow f K (h .1)
 
-  held-few : (f : ℕ) (η : List Value) → Known P f → Holds η (varTypes (P .fun f)) → length η ≤ 64
+  held-few : (f : ℕ) (η : List Value) → HasFunction P f → AllHoldTyped η (varTypes (P .fun f)) → length η ≤ 64
   held-few f η k h = rw (holds-length η (varTypes (P .fun f)) h) (z .vars f k)
 
   callers-narrow : (f : ℕ) (A : List Saved) → Callers P f A → Every NarrowFrame (savedFrames A) × Every NarrowActivation (savedActivations A)

@@ -14,10 +14,10 @@ use Rattle.spec_image.specs.Layout.{filled, valueWords, valuesWords, Act
 use Rattle.spec_image.specs.Image.{savedActivations, savedFrames}
 use Rattle.spec_image.specs.Decode.{valueOf}
 use Rattle.spec_image.specs.Core.{core}
-use Rattle.spec_image.proofs.Parts.{value-back, length-values}
-use Rattle.spec_image.proofs.Blocks.{filled-at}
+use Rattle.spec_image.proofs.ValueWords.{value-back, length-values}
+use Rattle.spec_image.proofs.BlockLengths.{filled-at}
 use Rattle.spec_image.proofs.Images.{length-saved}
-use Rattle.spec_image.proofs.Slots.{values-append, values-one, values-at}
+use Rattle.spec_image.proofs.SlotWords.{values-append, values-one, values-at}
 use Rattle.spec_image.proofs.Rooms.{rooms, filled-is, activation-word, activation-change}
 use Rattle.spec_image.proofs.Frames.{core-rooms}
 

@@ -5,8 +5,8 @@ use lib.Dec.{eqb}
 use lib.ListN.{getD, take, drop}
 use Rattle.varset.specs.Lowest.{pick}
 use Rattle.spec_machine.specs.Values.{Value, nothing, int, truth}
-use Rattle.spec_machine.specs.Program.{Head, op, fn, Ref, node, ifOf, seqOf}
-use Rattle.spec_machine.specs.Machine.{arith, abort, Frame, gather, and, wait, branch, check, Control, val, eval, exec, Saved, saved, calm, State, exception, main, returned, running}
+use Rattle.spec_machine.specs.Program.{Operation, op, fn, Ref, node, ifOf, seqOf}
+use Rattle.spec_machine.specs.Machine.{arith, abort, Frame, gather, and, wait, branch, check, Control, val, eval, exec, Saved, saved, emptyEnv, State, exception, main, returned, running}
 use Rattle.words.specs.Stacks.{entries}
 use Rattle.words.specs.Segments.{total}
 use Rattle.spec_image.specs.Layout.{Activation, activation}
@@ -31,7 +31,7 @@ refOf zero = Ref.nop
 refOf (suc m) = pick (eqb (m % 3) 0) (node (m / 3)) (pick (eqb (m % 3) 1) (ifOf (m / 3)) (seqOf (m / 3)))
 
 -- a frame's operands
-unfoldable pub operands : Head → ℕ → ℕ → List ℕ → Frame
+unfoldable pub operands : Operation → ℕ → ℕ → List ℕ → Frame
 operands h n m slots = gather h (valuesOf n slots) (nodesOf m (drop (2 * n) slots))
 
 -- the frames of kinds 1 to 9, from their three words and their slots
@@ -67,8 +67,8 @@ callersOf (activation f k η ∷ rest) K = saved f η (take k K) ∷ callersOf r
 
 -- the running state of a control, its activations and their frames
 unfoldable pub runningOf : Control → List Activation → List Frame → State
-runningOf c [] K = main calm
-runningOf c (activation f k η ∷ rest) K = running c calm f η (take k K) (callersOf rest (drop k K))
+runningOf c [] K = main emptyEnv
+runningOf c (activation f k η ∷ rest) K = running c emptyEnv f η (take k K) (callersOf rest (drop k K))
 
 -- the first n activations of an image, the last first, and how many frames they have together
 abbrev pub activationsTo : List ℕ → ℕ → List Activation
@@ -87,10 +87,10 @@ framesIn m = entries 20 frameOf m 4480 (total framesHeld (activationsIn m))
 -- the states of tags 1 to 6
 unfoldable pub states : List ℕ → List State
 states m =
-    main calm ∷ main calm
+    main emptyEnv ∷ main emptyEnv
     ∷ runningOf (controlOf (getD m 3 0) (getD m 4 0)) (activationsIn m) (framesIn m)
-    ∷ returned calm (getD m 1 0) ∷ State.value (getD m 1 0) ∷ exception arith ∷ exception abort ∷ []
+    ∷ returned emptyEnv (getD m 1 0) ∷ State.value (getD m 1 0) ∷ exception arith ∷ exception abort ∷ []
 
 -- the state that the words m stand for
 unfoldable pub stateOf : List ℕ → State
-stateOf m = getD (states m) (getD m 0 0) (main calm)
+stateOf m = getD (states m) (getD m 0 0) (main emptyEnv)

@@ -4,7 +4,7 @@ use mathlib.Core.List.{List, [], _∷_, _++_}
 use Prim.Native.Nat.{ℕ, _+_, _*_}
 use lib.ListN.{take, replicate, length}
 use Rattle.spec_machine.specs.Values.{Value, nothing, int, truth}
-use Rattle.spec_machine.specs.Program.{Head, op, fn, Ref, node, ifOf, seqOf}
+use Rattle.spec_machine.specs.Program.{Operation, op, fn, Ref, node, ifOf, seqOf}
 use Rattle.spec_machine.specs.Machine.{Frame, gather, and, wait, branch, check, Control, val, eval, exec}
 
 -- a list of words brought to w words, with zeros after it
@@ -41,7 +41,7 @@ refWord (seqOf n) = 3 + 3 * n
 unfoldable pub block : ℕ → ℕ → ℕ → ℕ → List ℕ → List ℕ
 block kind x y z slots = filled 20 (kind ∷ x ∷ y ∷ z ∷ slots)
 
-unfoldable pub gathering : Head → List Value → List ℕ → List ℕ
+unfoldable pub gathering : Operation → List Value → List ℕ → List ℕ
 gathering (op o) vs ns = block 1 o (length vs) (length ns) (valuesWords vs ++ nodesWords ns)
 gathering (fn g) vs ns = block 2 g (length vs) (length ns) (valuesWords vs ++ nodesWords ns)
 

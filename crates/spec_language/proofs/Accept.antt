@@ -15,13 +15,13 @@ use Rattle.records.specs.Search.{firstOf, shift, orElse, firstIn, unless}
 use Rattle.records.specs.declared.Found.{Found}
 use Rattle.records.specs.declared.Found.the-variants.{At, Nothing}
 use Rattle.records.proofs.Loops.{Below, first-none, none-found, lowest-none, lowest-below}
-use Rattle.records.proofs.Parts.{none-in}
+use Rattle.records.proofs.PartWalks.{none-in}
 use Rattle.spec_language.specs.Statements.{statementAt}
 use Rattle.spec_language.specs.Flow.{lacks, returns}
 use Rattle.spec_language.specs.Records.{lengthOk, headerOk, recordsOk, functionOk, sumOk, mainOk}
 use Rattle.spec_language.specs.Nodes.{nodeOk, sizeOk, misplaced, undeclared, firstUndeclared, outside, mistyped, answers}
-use Rattle.spec_language.specs.Check.{accepted, Asked, ask, originOf, inPart, partQuestions, questions, refuse, put, checkOf}
-use Rattle.spec_language.specs.Known.{Known, Calls}
+use Rattle.spec_language.specs.Check.{accepted, Asked, ask, originOf, inPart, partQuestions, questions, refuse, firstRefusal, checkOf}
+use Rattle.spec_language.specs.Known.{Known, CallsKnown}
 use Rattle.spec_language.proofs.Facts.{Header, header-is, Function, function-is, laid, known, calls}
 
 -- every record of the file passes every question
@@ -43,13 +43,13 @@ pub record Accepted (s : List ℕ) : Type 0 where
 
 -- ---- a question that finds nothing, both ways
 
-put-first : (q : ℕ) (a : Found) (rest : List Asked) → put (ask q a ∷ rest) ≡ accepted → (a ≡ Nothing) × (put rest ≡ accepted)
-unfolding put refuse
+put-first : (q : ℕ) (a : Found) (rest : List Asked) → firstRefusal (ask q a ∷ rest) ≡ accepted → (a ≡ Nothing) × (firstRefusal rest ≡ accepted)
+unfolding firstRefusal refuse
 put-first q (At p x) rest e = let z : _≡_ {A = ℕ} 0 1 = cc in absurd (omega arith)
 put-first q Nothing rest e = (refl, e)
 
-put-next : (q : ℕ) (a : Found) (rest : List Asked) → a ≡ Nothing → put rest ≡ accepted → put (ask q a ∷ rest) ≡ accepted
-unfolding put refuse
+put-next : (q : ℕ) (a : Found) (rest : List Asked) → a ≡ Nothing → firstRefusal rest ≡ accepted → firstRefusal (ask q a ∷ rest) ≡ accepted
+unfolding firstRefusal refuse
 put-next q a rest e r = rw e r
 
 pub unless-none : (b : Bool) (p : ℕ) → unless b p ≡ Nothing → b ≡ true
@@ -118,18 +118,18 @@ none-asked s q h = none-first (inPart q s) (functions s) 0 (λ f p r. part-in s 
 -- ---- the check accepts exactly where every record passes every question
 
 -- one after the other of the questions from q on
-part-asked : (s : List ℕ) (m q : ℕ) → put (partQuestions s m q) ≡ accepted → (k : ℕ) → q ≤ k → k < q + m → firstIn (inPart k s) (functions s) 0 ≡ Nothing
+part-asked : (s : List ℕ) (m q : ℕ) → firstRefusal (partQuestions s m q) ≡ accepted → (k : ℕ) → q ≤ k → k < q + m → firstIn (inPart k s) (functions s) 0 ≡ Nothing
 unfolding partQuestions
 part-asked s zero q e k p r = absurd (omega arith)
 part-asked s (suc m) q e k p r = go (eqb k q) refl (put-first q _ (partQuestions s m (suc q)) e) (λ z. part-asked s m (suc q) z k)
   where
-    go : (b : Bool) → eqb k q ≡ b → (firstIn (inPart q s) (functions s) 0 ≡ Nothing) × (put (partQuestions s m (suc q)) ≡ accepted)
-        → (put (partQuestions s m (suc q)) ≡ accepted → suc q ≤ k → k < suc q + m → firstIn (inPart k s) (functions s) 0 ≡ Nothing) → firstIn (inPart k s) (functions s) 0 ≡ Nothing
+    go : (b : Bool) → eqb k q ≡ b → (firstIn (inPart q s) (functions s) 0 ≡ Nothing) × (firstRefusal (partQuestions s m (suc q)) ≡ accepted)
+        → (firstRefusal (partQuestions s m (suc q)) ≡ accepted → suc q ≤ k → k < suc q + m → firstIn (inPart k s) (functions s) 0 ≡ Nothing) → firstIn (inPart k s) (functions s) 0 ≡ Nothing
     go true z a rest = rw (eqb-true k q z) (a .0)
     go false z a rest = let n : k ≡ q → ⊥ = eqb-false k q z in rest (a .1) (omega arith) (omega arith)
 
-pub asked-part : (s : List ℕ) (m q : ℕ) → ((k : ℕ) → q ≤ k → k < q + m → firstIn (inPart k s) (functions s) 0 ≡ Nothing) → put (partQuestions s m q) ≡ accepted
-unfolding partQuestions put
+pub asked-part : (s : List ℕ) (m q : ℕ) → ((k : ℕ) → q ≤ k → k < q + m → firstIn (inPart k s) (functions s) 0 ≡ Nothing) → firstRefusal (partQuestions s m q) ≡ accepted
+unfolding partQuestions firstRefusal
 asked-part s zero q h = refl
 asked-part s (suc m) q h = put-next q _ (partQuestions s m (suc q)) (h q (omega arith) (omega arith)) (asked-part s m (suc q) (λ k p r. h k (omega arith) (omega arith)))
 
@@ -215,5 +215,5 @@ module _ (s : List ℕ) (h : Accepted s) where
   pub nodes-known : (f : ℕ) → f < functions s → Known (partOf s f) (countOf s f)
   nodes-known f l = known s f (partOf s f) (countOf s f) parts l (λ i. h .seven f i l) (λ i. h .eight f i l)
 
-  pub calls-known : (f : ℕ) → f < functions s → Calls (functions s) (partOf s f) (countOf s f)
+  pub calls-known : (f : ℕ) → f < functions s → CallsKnown (functions s) (partOf s f) (countOf s f)
   calls-known f l = calls s f (partOf s f) (countOf s f) parts l (λ i. h .seven f i l)

@@ -17,7 +17,7 @@ use Rattle.records.proofs.Bools.{and-left, and-right, or-cases, clash}
 use Rattle.spec_language.specs.Scopes.{usesVariable}
 use Rattle.spec_language.specs.Records.{within, headerOk, recordsOk, functionOk, sumOk}
 use Rattle.spec_language.specs.Nodes.{fields, fieldsOk, nodeOk, total, sizeOk}
-use Rattle.spec_language.specs.Known.{namesVariable, Known, Calls}
+use Rattle.spec_language.specs.Known.{namesVariable, Known, CallsKnown}
 
 pub within-is : (lo hi k : ℕ) → within lo hi k ≡ true → (lo ≤ k) × (k ≤ hi)
 unfolding within
@@ -170,7 +170,7 @@ module _ (s : List ℕ) (f : ℕ) (t : List ℕ) (n : ℕ) (g : Laid s) (l : f <
   at : (i : ℕ) → i < n → (k : ℕ) → kindAt t i ≡ k → fieldsOk s f k (aAt t i) (bAt t i) ≡ true
   at i h k e = rw e at (node-fields s f t i (seven i h))
 
-  pub calls : Calls (functions s) t n
+  pub calls : CallsKnown (functions s) t n
   calls i h e = call-fields s f (aAt t i) (bAt t i) (at i h 5 e) .0
 
   pub named : (i : ℕ) → i < n → namesVariable (kindAt t i) ≡ true → bAt t i < 64

@@ -10,6 +10,6 @@ pub mod Rules
 pub mod Flows
 pub mod Subtrees
 pub mod Scoping
-pub mod Places
+pub mod LowestRead
 pub mod Refusals
 pub mod Verdicts

@@ -11,10 +11,10 @@ use Rattle.records.specs.Search.{firstOf, shift, orElse, firstIn}
 use Rattle.records.specs.declared.Found.{Found}
 use Rattle.records.specs.declared.Found.the-variants.{At, Nothing}
 use Rattle.spec_language.specs.Records.{functionOk}
-use Rattle.spec_language.specs.Check.{refused, Asked, ask, originOf, inPart, partQuestions, questions, refuse, put, checkOf}
+use Rattle.spec_language.specs.Check.{refused, Asked, ask, originOf, inPart, partQuestions, questions, refuse, firstRefusal, checkOf}
 use Rattle.spec_language.proofs.Facts.{header-is, function-is, laid}
 use Rattle.spec_language.proofs.Accept.{Finds, unless-none, shift-none, all-pass}
-use Rattle.spec_language.proofs.Places.{Lowest}
+use Rattle.spec_language.proofs.LowestRead.{Lowest}
 
 -- record p is the lowest of those that fail, over all functions f: i records from origin f on
 pub record LowestRecord (s : List ℕ) (origin : ℕ → ℕ) (P : ℕ → ℕ → Type 0) (p : ℕ) : Type 0 where
@@ -86,17 +86,17 @@ pub record Refused (s : List ℕ) (q p x : ℕ) : Type 0 where
   pub laid : Laid s
   pub asks : Asks s q p x 7
 
-put-on : (r q p x : ℕ) (a : Found) (rest : List Asked) → (r ≡ q → ⊥) → put (ask r a ∷ rest) ≡ refused q p x → (a ≡ Nothing) × (put rest ≡ refused q p x)
-unfolding put refuse
+put-on : (r q p x : ℕ) (a : Found) (rest : List Asked) → (r ≡ q → ⊥) → firstRefusal (ask r a ∷ rest) ≡ refused q p x → (a ≡ Nothing) × (firstRefusal rest ≡ refused q p x)
+unfolding firstRefusal refuse
 put-on r q p x (At i y) rest l e = let z : r ≡ q = cc in absurd (l z)
 put-on r q p x Nothing rest l e = (refl, e)
 
-part-refused : (s : List ℕ) (m r q p x : ℕ) → put (partQuestions s m r) ≡ refused q p x → Asks s q p x r
-unfolding partQuestions put refuse
+part-refused : (s : List ℕ) (m r q p x : ℕ) → firstRefusal (partQuestions s m r) ≡ refused q p x → Asks s q p x r
+unfolding partQuestions firstRefusal refuse
 part-refused s zero r q p x e = let z : _≡_ {A = ℕ} 0 1 = cc in absurd (omega arith)
 part-refused s (suc m) r q p x e = go (firstIn (inPart r s) (functions s) 0) refl e (part-refused s m (suc r) q p x)
   where
-    go : (a : Found) → firstIn (inPart r s) (functions s) 0 ≡ a → refuse r a (put (partQuestions s m (suc r))) ≡ refused q p x → (put (partQuestions s m (suc r)) ≡ refused q p x → Asks s q p x (suc r))
+    go : (a : Found) → firstIn (inPart r s) (functions s) 0 ≡ a → refuse r a (firstRefusal (partQuestions s m (suc r))) ≡ refused q p x → (firstRefusal (partQuestions s m (suc r)) ≡ refused q p x → Asks s q p x (suc r))
         → Asks s q p x r
     go (At i y) u e rest =
         let z : q ≡ r = cc in
@@ -123,8 +123,8 @@ refused-is s q p x l e =
       asks = part-refused s 8 7 q p x (q6 .1);
     }
 
-put-here : (q p x : ℕ) (a : Found) (rest : List Asked) → (put rest ≡ refused q p x → ⊥) → put (ask q a ∷ rest) ≡ refused q p x → a ≡ At p x
-unfolding put refuse
+put-here : (q p x : ℕ) (a : Found) (rest : List Asked) → (firstRefusal rest ≡ refused q p x → ⊥) → firstRefusal (ask q a ∷ rest) ≡ refused q p x → a ≡ At p x
+unfolding firstRefusal refuse
 put-here q p x (At i y) rest n e = let z : At i y ≡ At p x = cc in z
 put-here q p x Nothing rest n e = absurd (n e)
 

@@ -17,7 +17,7 @@ use Rattle.spec_language.specs.Scopes.{declaresAt, declCount, declOf, un
 use Rattle.spec_language.specs.Types.{paramType, varType, operatorType, typesOf, typeAt, condition, wantsOf, wantAt, suits, agree}
 use Rattle.spec_language.specs.Records.{within, lengthOk, headerOk, recordsOk, functionOk, sumOk, mainOk}
 use Rattle.spec_language.specs.Nodes.{fields, fieldsOk, nodeOk, total, sizeOk, wrongChild, some, misplaced, undeclared, firstUndeclared, outside, mistyped, answers}
-use Rattle.spec_language.specs.Check.{Verdict, accepted, refused, originOf, inPart, partQuestions, questions, refuse, put, checkOf}
+use Rattle.spec_language.specs.Check.{Verdict, accepted, refused, originOf, inPart, partQuestions, questions, refuse, firstRefusal, checkOf}
 
 -- a file, and what the check says of it
 pub data Row : Type 0 where
@@ -133,5 +133,5 @@ rows =
 
 -- all rows
 worked : map (λ r. checkOf (fileOf r)) rows ≡ map verdictOf rows
-unfolding lowest has none with without both either less below u16At u32At markAt functions nodes resultOf paramsOf varsOf maskOf countOf kindAt aAt bAt sizeAt sumOf startOf partOf firstOf shift orElse firstIn unless arities arityOf arityAt walk children differ isExpression wantsExpression wrongSort prior last shapes shapeAt readsFrom readsOf grow statementIn statementAt declares leaves missing lacks returns declaresAt declCount declOf under usesVariable paramType varType operatorType typesOf typeAt condition wantsOf wantAt suits agree within lengthOk headerOk recordsOk functionOk sumOk mainOk fields fieldsOk nodeOk total sizeOk wrongChild some misplaced undeclared firstUndeclared outside mistyped answers originOf inPart partQuestions questions refuse put checkOf
+unfolding lowest has none with without both either less below u16At u32At markAt functions nodes resultOf paramsOf varsOf maskOf countOf kindAt aAt bAt sizeAt sumOf startOf partOf firstOf shift orElse firstIn unless arities arityOf arityAt walk children differ isExpression wantsExpression wrongSort prior last shapes shapeAt readsFrom readsOf grow statementIn statementAt declares leaves missing lacks returns declaresAt declCount declOf under usesVariable paramType varType operatorType typesOf typeAt condition wantsOf wantAt suits agree within lengthOk headerOk recordsOk functionOk sumOk mainOk fields fieldsOk nodeOk total sizeOk wrongChild some misplaced undeclared firstUndeclared outside mistyped answers originOf inPart partQuestions questions refuse firstRefusal checkOf
 worked = refl

@@ -15,7 +15,7 @@ use Rattle.records.specs.Fields.{kindAt, bAt, sizeAt}
 use Rattle.records.specs.Search.{orElse}
 use Rattle.records.specs.declared.Found.{Found}
 use Rattle.records.specs.declared.Found.the-variants.{At, Nothing}
-use Rattle.records.proofs.Tables.{each-at}
+use Rattle.records.proofs.EntryTables.{each-at}
 use Rattle.spec_language.specs.Statements.{Shape, nop, seq, assign, decl, if, while, return, assert, expr, stray, prior, last, shapes, shapeAt, read, readsFrom, readsOf, Statement, Nop, Seq, Assign, Decl, If, While, Return, Assert, Expr, grow, statementIn, statementAt}
 use Rattle.spec_language.specs.Flow.{leaves, missing, lacks}
 use Rattle.spec_language.specs.Known.{Known}

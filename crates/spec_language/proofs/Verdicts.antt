@@ -26,7 +26,7 @@ use Rattle.spec_language.proofs.Facts.{sum-more, known, sized-is}
 use Rattle.spec_language.proofs.Accept.{Finds, all-pass, asked-none}
 use Rattle.spec_language.proofs.Tiles.{Sizes}
 use Rattle.spec_language.proofs.Trees.{lacking-item}
-use Rattle.spec_language.proofs.Places.{Lacks, Lowest, lacking-inside, lacking-found}
+use Rattle.spec_language.proofs.LowestRead.{Lacks, Lowest, lacking-inside, lacking-found}
 use Rattle.spec_language.proofs.Refusals.{LowestRecord, lowest-record, refused-is, refused-four, asked-first}
 
 -- ---- the questions whose place is a node

@@ -52,10 +52,10 @@ refuse q (At place item) later = refused q place item
 refuse q Nothing later = later
 
 -- the first no
-unfoldable pub put : List Asked → Verdict
-put [] = accepted
-put (ask q found ∷ rest) = refuse q found (put rest)
+unfoldable pub firstRefusal : List Asked → Verdict
+firstRefusal [] = accepted
+firstRefusal (ask q found ∷ rest) = refuse q found (firstRefusal rest)
 
 -- the check
 unfoldable pub checkOf : List ℕ → Verdict
-checkOf s = put (questions s)
+checkOf s = firstRefusal (questions s)

@@ -20,5 +20,5 @@ pub record Known (t : List ℕ) (n : ℕ) : Type 0 where
   pub arguments : (i : ℕ) → i < n → kindAt t i ≡ 5 → aAt t i ≤ 8
 
 -- the calls among n nodes of a part are of the first F functions
-abbrev pub Calls : ℕ → List ℕ → ℕ → Type 0
-Calls F t n = (i : ℕ) → i < n → kindAt t i ≡ 5 → bAt t i < F
+abbrev pub CallsKnown : ℕ → List ℕ → ℕ → Type 0
+CallsKnown F t n = (i : ℕ) → i < n → kindAt t i ≡ 5 → bAt t i < F

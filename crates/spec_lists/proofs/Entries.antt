@@ -8,14 +8,14 @@ use native.Mathlib.Omega.{arith}
 use lib.ListN.{length, drop, length-append, length-drop}
 use Rattle.spec_language.specs.Check.{Verdict, accepted, refused, checkOf}
 use Rattle.spec_machine.specs.Values.{Value}
-use Rattle.spec_machine.specs.Machine.{State, main, calm}
-use Rattle.spec_machine.specs.Fit.{Within}
+use Rattle.spec_machine.specs.Machine.{State, main, emptyEnv}
+use Rattle.spec_machine.specs.Fit.{WithinLimits}
 use Rattle.spec_machine.specs.Run.{Ran, runOf, lookUp}
 use Rattle.spec_machine.specs.File.{programOf}
 use Rattle.spec_machine.specs.Calls.{Machine}
 use Rattle.spec_machine.proofs.Calls.{At, Owes}
 use Rattle.spec_machine.proofs.Files.{accepted-program}
-use Rattle.spec_machine.proofs.Words.{file-words}
+use Rattle.spec_machine.proofs.KeepWords.{file-words}
 use Rattle.spec_machine.proofs.Runs.{Good, ran}
 use Rattle.spec_machine.proofs.Safety.{starts-fit}
 use Rattle.spec_image.specs.Image.{image}
@@ -24,59 +24,59 @@ use Rattle.spec_image.specs.Memory.{size}
 use Rattle.spec_image.proofs.Images.{image-length}
 use Rattle.spec_image.proofs.Sized.{file-sized, fit-narrow}
 use Rattle.spec_image.proofs.Memory.{held-length, held-state, whole-held}
-use Rattle.spec_answers.specs.Answers.{given, valueOr, Told, told, turned, answered, written, startAnswer, startMemory, memoryAnswer, runFrom, runAnswer, runMemory, lookVerdict, lookAnswer}
-use Rattle.spec_lists.specs.Forms.{Given, Asking, Form, Input, readsOf, Reply, answerOf, memoryAfter, Passed, Tells, Took, Does, form}
+use Rattle.spec_answers.specs.Answers.{isPresent, valueOr, Result, granted, denied, byVerdict, written, startAnswer, startMemory, memoryAnswer, runFrom, runAnswer, runMemory, lookVerdict, lookAnswer}
+use Rattle.spec_lists.specs.Forms.{Given, Asking, CallKind, Input, givenOf, AnswerType, answerOf, memoryAfter, IsAccepted, IsGranted, Took, Does, form}
 use Rattle.spec_lists.specs.Lists.{Image}
 use Rattle.spec_answers.proofs.Questions.{start-so, memory-so, look-so}
 
 -- ---- answers
 
-passed? : (v : Verdict) → Dec (Passed v)
+passed? : (v : Verdict) → Dec (IsAccepted v)
 passed? accepted = yes tt
 passed? (refused q p x) = no (λ h. h)
 
-tells? : {A : Type 0} (a : Told A) → Dec (Tells a)
-tells? (told a) = yes tt
-tells? (turned q p x) = no (λ h. h)
+tells? : {A : Type 0} (a : Result A) → Dec (IsGranted a)
+tells? (granted a) = yes tt
+tells? (denied q p x) = no (λ h. h)
 
-pub took? : (k : Form) (a : Reply k) → Dec (Took k a)
-took? Form.start a = passed? a
-took? Form.run a = tells? a
-took? Form.memory a = passed? a
-took? Form.look a = tells? a
+pub took? : (k : CallKind) (a : AnswerType k) → Dec (Took k a)
+took? CallKind.start a = passed? a
+took? CallKind.run a = tells? a
+took? CallKind.memory a = passed? a
+took? CallKind.look a = tells? a
 
 -- an answer that is no refusal is the one to an accepted verdict
-passed-is : (v : Verdict) → Passed v → v ≡ accepted
+passed-is : (v : Verdict) → IsAccepted v → v ≡ accepted
 passed-is accepted h = refl
 passed-is (refused q p x) h = absurd h
 
-tells-is : {A : Type 0} (v : Verdict) (a : A) → Tells (answered v a) → v ≡ accepted
-unfolding answered
+tells-is : {A : Type 0} (v : Verdict) (a : A) → IsGranted (byVerdict v a) → v ≡ accepted
+unfolding byVerdict
 tells-is accepted a h = refl
 tells-is (refused q p x) a h = absurd h
 
 -- a refusal writes nothing
-not-written : (v : Verdict) (m : List ℕ) (s : State) → ¬ Passed v → written v m s ≡ m
+not-written : (v : Verdict) (m : List ℕ) (s : State) → ¬ IsAccepted v → written v m s ≡ m
 unfolding written
 not-written accepted m s n = absurd (n tt)
 not-written (refused q p x) m s n = refl
 
-not-told : {A : Type 0} (v : Verdict) (a : A) → ¬ Tells (answered v a) → ¬ Passed v
-unfolding answered
+not-told : {A : Type 0} (v : Verdict) (a : A) → ¬ IsGranted (byVerdict v a) → ¬ IsAccepted v
+unfolding byVerdict
 not-told accepted a n = n
 not-told (refused q p x) a n = n
 
-pub refusal : (k : Form) (i : Input k) (m : List ℕ) → ¬ Took k (answerOf k i m) → memoryAfter k i m ≡ m
+pub refusal : (k : CallKind) (i : Input k) (m : List ℕ) → ¬ Took k (answerOf k i m) → memoryAfter k i m ≡ m
 unfolding startMemory runMemory runAnswer
-refusal Form.start i m n = not-written (startAnswer (i .bytes) m) m (main calm) n
-refusal Form.run i m n = not-written (memoryAnswer (i .file .bytes) m) m _ (not-told (memoryAnswer (i .file .bytes) m) (runFrom (i .file .bytes) m (i .number)) n)
-refusal Form.memory i m n = refl
-refusal Form.look i m n = refl
+refusal CallKind.start i m n = not-written (startAnswer (i .bytes) m) m (main emptyEnv) n
+refusal CallKind.run i m n = not-written (memoryAnswer (i .file .bytes) m) m _ (not-told (memoryAnswer (i .file .bytes) m) (runFrom (i .file .bytes) m (i .number)) n)
+refusal CallKind.memory i m n = refl
+refusal CallKind.look i m n = refl
 
 -- ---- accepted calls
 
 -- a variable that is there
-there : (o : Option Value) → given o ≡ true → o ≡ some (valueOr o)
+there : (o : Option Value) → isPresent o ≡ true → o ≡ some (valueOr o)
 there none e = let z : _≡_ {A = ℕ} 0 1 = cc in absurd (omega arith)
 there (some v) e = refl
 
@@ -86,7 +86,7 @@ module _ (M : List ℕ) where
   Between φ m σ = At (List ℕ) Given (List ℕ) (λ e. e .bytes) programOf (Image M) φ m σ
 
   -- the image of another state, written over the first words
-  pub rewritten : (m : List ℕ) (s t : State) → Within s → Within t → Image M s m → Image M t (image t ++ drop size m)
+  pub rewritten : (m : List ℕ) (s t : State) → WithinLimits s → WithinLimits t → Image M s m → Image M t (image t ++ drop size m)
   rewritten m s t v w h =
       let r = whole-held t (drop size m) w in
       let l : length (image t ++ drop size m) ≡ 16384 + (length m - 16384) = length-append (image t) (drop size m) ∙ rw (image-length t w, length-drop size m) in
@@ -96,21 +96,21 @@ module _ (M : List ℕ) where
   pub state-there : (e : Given) (m : List ℕ) (σ : Machine) → checkOf (e .bytes) ≡ accepted → Between (e .bytes) m σ → stateOf m ≡ σ .state
   state-there e m σ c a = held-state m (σ .state) (a .fit .within) (fit-narrow (programOf (e .bytes)) (file-sized (e .bytes) c) (σ .state) (a .fit)) (a .image .holds)
 
-  abbrev pub Owed : (k : Form) → Input k → List ℕ → Machine → Type 0
-  Owed k i m σ = (τ : Machine) × Does k i (answerOf k i m) σ τ × Between (readsOf k i .bytes) (memoryAfter k i m) τ
+  abbrev pub Owed : (k : CallKind) → Input k → List ℕ → Machine → Type 0
+  Owed k i m σ = (τ : Machine) × Does k i (answerOf k i m) σ τ × Between (givenOf k i .bytes) (memoryAfter k i m) τ
 
-  start-owes : (e : Given) (m : List ℕ) (σ : Machine) → Between (e .bytes) m σ → startAnswer (e .bytes) m ≡ accepted → Owed Form.start e m σ
+  start-owes : (e : Given) (m : List ℕ) (σ : Machine) → Between (e .bytes) m σ → startAnswer (e .bytes) m ≡ accepted → Owed CallKind.start e m σ
   unfolding startMemory written
   start-owes e m σ a t =
       let f = starts-fit (e .bytes) (e .small) (start-so (e .bytes) m t .0) in
-      let w : startMemory (e .bytes) m ≡ image (main calm) ++ drop size m = rw t in (
-        record { state = main calm; history = [] },
+      let w : startMemory (e .bytes) m ≡ image (main emptyEnv) ++ drop size m = rw t in (
+        record { state = main emptyEnv; history = [] },
         (refl, refl),
-        record { image = rw w (rewritten m (σ .state) (main calm) (a .fit .within) tt (a .image)); fit = f; same = refl },
+        record { image = rw w (rewritten m (σ .state) (main emptyEnv) (a .fit .within) tt (a .image)); fit = f; same = refl },
       )
 
-  run-owes : (i : Asking) (m : List ℕ) (σ : Machine) → Between (i .file .bytes) m σ → memoryAnswer (i .file .bytes) m ≡ accepted → Owed Form.run i m σ
-  unfolding runAnswer runMemory runFrom answered written
+  run-owes : (i : Asking) (m : List ℕ) (σ : Machine) → Between (i .file .bytes) m σ → memoryAnswer (i .file .bytes) m ≡ accepted → Owed CallKind.run i m σ
+  unfolding runAnswer runMemory runFrom byVerdict written
   run-owes i m σ a t =
       let s = i .file .bytes in
       let c = memory-so s m t .0 in
@@ -119,29 +119,29 @@ module _ (M : List ℕ) where
       let g : Good (programOf s) (σ .state) (σ .history) (i .number) r
       = ran (accepted-program s c) (file-words s (i .file .small)) (i .number) (σ .state) (σ .history) (a .fit) (a .same) in
       let w : runMemory s m (i .number) ≡ image (r .state) ++ drop size m = rw (t, d) in
-      let b : runAnswer s m (i .number) ≡ told r = rw (t, d) in (
+      let b : runAnswer s m (i .number) ≡ granted r = rw (t, d) in (
         record { state = r .state; history = g .history },
         record { outcome = r .outcome; steps = r .steps; answer = b; runs = g .runs },
         record { image = rw w (rewritten m (σ .state) (r .state) (a .fit .within) (g .fit .within) (a .image)); fit = g .fit; same = g .same },
       )
 
-  look-owes : (i : Asking) (m : List ℕ) (σ : Machine) → Between (i .file .bytes) m σ → lookVerdict (i .file .bytes) m (i .number) ≡ accepted → Owed Form.look i m σ
-  unfolding lookAnswer answered
+  look-owes : (i : Asking) (m : List ℕ) (σ : Machine) → Between (i .file .bytes) m σ → lookVerdict (i .file .bytes) m (i .number) ≡ accepted → Owed CallKind.look i m σ
+  unfolding lookAnswer byVerdict
   look-owes i m σ a t =
       let s = i .file .bytes in
       let v = look-so s m (i .number) t in
       let d = state-there (i .file) m σ (v .0) a in
       let h : lookUp (σ .state) (i .number) ≡ some (valueOr (lookUp (σ .state) (i .number))) = there (lookUp (σ .state) (i .number)) (rw d at (v .1)) in
-      let b : lookAnswer s m (i .number) ≡ told (valueOr (lookUp (σ .state) (i .number))) = rw (t, d) in
+      let b : lookAnswer s m (i .number) ≡ granted (valueOr (lookUp (σ .state) (i .number))) = rw (t, d) in
       (σ, (refl, record { value = valueOr (lookUp (σ .state) (i .number)); there = h; answer = b }), a)
 
-  pub owes : (k : Form) (i : Input k) (m : List ℕ) (σ : Machine) → Between (readsOf k i .bytes) m σ → Took k (answerOf k i m) → Owed k i m σ
+  pub owes : (k : CallKind) (i : Input k) (m : List ℕ) (σ : Machine) → Between (givenOf k i .bytes) m σ → Took k (answerOf k i m) → Owed k i m σ
   unfolding runAnswer lookAnswer
-  owes Form.start i m σ a t = start-owes i m σ a (passed-is (startAnswer (i .bytes) m) t)
-  owes Form.run i m σ a t = run-owes i m σ a (tells-is (memoryAnswer (i .file .bytes) m) (runFrom (i .file .bytes) m (i .number)) t)
-  owes Form.memory i m σ a t = (σ, refl, a)
-  owes Form.look i m σ a t = look-owes i m σ a (tells-is (lookVerdict (i .file .bytes) m (i .number)) (valueOr (lookUp (stateOf m) (i .number))) t)
+  owes CallKind.start i m σ a t = start-owes i m σ a (passed-is (startAnswer (i .bytes) m) t)
+  owes CallKind.run i m σ a t = run-owes i m σ a (tells-is (memoryAnswer (i .file .bytes) m) (runFrom (i .file .bytes) m (i .number)) t)
+  owes CallKind.memory i m σ a t = (σ, refl, a)
+  owes CallKind.look i m σ a t = look-owes i m σ a (tells-is (lookVerdict (i .file .bytes) m (i .number)) (valueOr (lookUp (stateOf m) (i .number))) t)
 
   -- what each form owes in a list begun from M
-  abbrev pub owing : (k : Form) → Owes (List ℕ) Given (List ℕ) (λ e. e .bytes) programOf (Image M) (form k)
+  abbrev pub owing : (k : CallKind) → Owes (List ℕ) Given (List ℕ) (λ e. e .bytes) programOf (Image M) (form k)
   owing k = record { took? = took? k; refused = refusal k; accepted = owes k }

@@ -5,7 +5,7 @@ use mathlib.Core.List.{List, _++_}
 use Prim.Native.Nat.{ℕ}
 use lib.ListN.{drop}
 use Rattle.spec_language.specs.Check.{accepted, checkOf}
-use Rattle.spec_machine.specs.Machine.{State, exception, main, returned, running, calm}
+use Rattle.spec_machine.specs.Machine.{State, exception, main, returned, running, emptyEnv}
 use Rattle.spec_machine.specs.Fit.{Fit}
 use Rattle.spec_machine.specs.File.{programOf}
 use Rattle.spec_machine.specs.Applies.{One}
@@ -17,8 +17,8 @@ use Rattle.spec_image.specs.Memory.{size, Holds}
 use Rattle.spec_image.proofs.Sized.{file-sized}
 use Rattle.spec_image.proofs.Memory.{held-length, whole-held, holds-fit, fit-holds, one-state}
 use Rattle.spec_answers.specs.Answers.{startMemory, written}
-use Rattle.spec_lists.specs.Forms.{Given, Form, form}
-use Rattle.spec_lists.specs.Lists.{Begins, by-start, stored, Image, Final, Last, Calls, OneFileIn, StoryOf}
+use Rattle.spec_lists.specs.Forms.{Given, CallKind, form}
+use Rattle.spec_lists.specs.Lists.{Begins, by-start, stored, Image, Final, Last, AnyCall, OneFileIn, StoryOf}
 use Rattle.spec_answers.proofs.Questions.{start-so, memory-so, memory-if}
 use Rattle.spec_lists.proofs.Entries.{Between, owing}
 
@@ -31,9 +31,9 @@ begins-checked e (stored M t) = memory-so (e .bytes) M t .0
 begins-at : (e : Given) {σ : Machine} {m : List ℕ} → Begins e σ m → Between m (e .bytes) m σ
 unfolding startMemory written
 begins-at e (by-start M t) =
-    let w : startMemory (e .bytes) M ≡ image (main calm) ++ drop size M = rw t in
+    let w : startMemory (e .bytes) M ≡ image (main emptyEnv) ++ drop size M = rw t in
     record {
-      image = record { holds = rw w (whole-held (main calm) (drop size M) tt .0); rest = refl; long = refl };
+      image = record { holds = rw w (whole-held (main emptyEnv) (drop size M) tt .0); rest = refl; long = refl };
       fit = starts-fit (e .bytes) (e .small) (start-so (e .bytes) M t .0);
       same = refl;
     }
@@ -63,10 +63,10 @@ closes M e m σ c a =
 
 -- demand 3: the machine goes as the calls say, after each call the memory holds its image, and at the end the machine is final or one rule
 -- applies, its values are typed, and the memory passes the memory check
-pub whole-lists : (e : Given) (σ : Machine) (M : List ℕ) → Begins e σ M → (cs : List Calls) → OneFileIn M (e .bytes) cs → StoryOf M cs e σ
+pub whole-lists : (e : Given) (σ : Machine) (M : List ℕ) → Begins e σ M → (cs : List AnyCall) → OneFileIn M (e .bytes) cs → StoryOf M cs e σ
 whole-lists e σ M b cs one =
     let c = begins-checked e b in
-    whole (List ℕ) Given (List ℕ) (λ d. d .bytes) programOf (Image M) Form form (owing M) (e .bytes) (Last M)
+    whole (List ℕ) Given (List ℕ) (λ d. d .bytes) programOf (Image M) CallKind form (owing M) (e .bytes) (Last M)
     (λ d m τ q a. closes M d m τ (rw q c) (rw q a)) cs e M σ refl one (begins-at e b)
 
 -- the state that a list begins with is the one fit state whose image is there

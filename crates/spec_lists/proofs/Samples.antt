@@ -27,21 +27,21 @@ use Rattle.spec_language.specs.Records as records
 use Rattle.spec_language.specs.Records.{lengthOk, headerOk, recordsOk, functionOk, sumOk, mainOk}
 use Rattle.spec_language.specs.Nodes as nodes
 use Rattle.spec_language.specs.Nodes.{fieldsOk, nodeOk, sizeOk, wrongChild, misplaced, undeclared, firstUndeclared, outside, mistyped, answers}
-use Rattle.spec_language.specs.Check.{accepted, refused, originOf, inPart, partQuestions, questions, refuse, put, checkOf}
+use Rattle.spec_language.specs.Check.{accepted, refused, originOf, inPart, partQuestions, questions, refuse, firstRefusal, checkOf}
 use Rattle.arith.specs.Int as ints
 use Rattle.arith.specs.Operators as operators
 use Rattle.spec_machine.specs.Values.{int, result}
 use Rattle.spec_machine.specs.Program.{Ref, node}
-use Rattle.spec_machine.specs.Machine.{wait, exec, calm, State, main, running}
+use Rattle.spec_machine.specs.Machine.{wait, exec, emptyEnv, State, main, running}
 use Rattle.spec_machine.specs.Run.{Outcome, Spent, runOf}
-use Rattle.spec_machine.specs.File.{backwards, kids, andOf, looks, lookAt, refAt, formOf, formAt, ifForm, seqForm, seeAt, unrolled, looped, stmtAt, typesFrom, funOf, programOf}
+use Rattle.spec_machine.specs.File.{backwards, kids, andForm, looks, lookAt, refAt, formOf, formAt, ifForm, seqForm, seeAt, unrolled, looped, stmtAt, typesFrom, funOf, programOf}
 use Rattle.spec_image.specs.Layout.{filled, bit, valueWords, valuesWords, nodesWords, refWord, block, gathering, frameWords, controlWords, activationWords}
 use Rattle.spec_image.specs.Image.{savedActivations, savedFrames, headWords, activationsOf, framesOf, image}
 use Rattle.spec_image.specs.Decode.{valueOf, valuesOf, nodesOf, refOf, operands, frames, frameOf, controlOf, activationOf, framesHeld, callersOf, runningOf, activationsIn, framesIn, states, stateOf}
 use Rattle.spec_image.specs.Memory.{fitWords}
-use Rattle.spec_answers.specs.Answers.{roomFor, imageIn, variableIn, startAnswer, memoryAnswer, lookVerdict, told, turned, answered, written, startMemory, runFrom, runAnswer, runMemory, lookAnswer}
-use Rattle.spec_lists.specs.Forms.{Given, Form}
-use Rattle.spec_lists.specs.Lists.{by-start, Calls, StoryOf}
+use Rattle.spec_answers.specs.Answers.{roomFor, imageIn, variableIn, startAnswer, memoryAnswer, lookVerdict, granted, denied, byVerdict, written, startMemory, runFrom, runAnswer, runMemory, lookAnswer}
+use Rattle.spec_lists.specs.Forms.{Given, CallKind}
+use Rattle.spec_lists.specs.Lists.{by-start, AnyCall, StoryOf}
 use Rattle.spec_lists.proofs.Lists.{whole-lists}
 
 -- decl#5(0, int, seq#4(assign#1(0, 5#0), return#3(x0#2)))
@@ -57,16 +57,16 @@ begun = startMemory file dirty
 
 -- start, a run of five steps, look-ups, a run with no file, a run to the end, a look-up after it; memory checks and a second start
 sample-list : (startAnswer file dirty ≡ accepted)
-    × (runAnswer file begun 5 ≡ told (record { outcome = Spent; steps = 5; state = running (exec Ref.nop) calm 0 (int 5 ∷ []) (wait (node 3) ∷ []) [] }))
-    × (lookAnswer file (runMemory file begun 5) 0 ≡ told (int 5))
-    × (lookAnswer file (runMemory file begun 5) 1 ≡ turned 17 0 0)
-    × (runAnswer [] (runMemory file begun 5) 9 ≡ turned 1 0 0)
-    × (runAnswer file (runMemory file begun 5) 9 ≡ told (record { outcome = Outcome.value 5; steps = 5; state = State.value 5 }))
-    × (lookAnswer file (runMemory file (runMemory file begun 5) 9) 0 ≡ turned 17 0 0)
+    × (runAnswer file begun 5 ≡ granted (record { outcome = Spent; steps = 5; state = running (exec Ref.nop) emptyEnv 0 (int 5 ∷ []) (wait (node 3) ∷ []) [] }))
+    × (lookAnswer file (runMemory file begun 5) 0 ≡ granted (int 5))
+    × (lookAnswer file (runMemory file begun 5) 1 ≡ denied 17 0 0)
+    × (runAnswer [] (runMemory file begun 5) 9 ≡ denied 1 0 0)
+    × (runAnswer file (runMemory file begun 5) 9 ≡ granted (record { outcome = Outcome.value 5; steps = 5; state = State.value 5 }))
+    × (lookAnswer file (runMemory file (runMemory file begun 5) 9) 0 ≡ denied 17 0 0)
     × (memoryAnswer file dirty ≡ refused 16 0 0)
     × (memoryAnswer file (runMemory file begun 5) ≡ accepted)
     × (startAnswer file (runMemory file begun 5) ≡ accepted)
-unfolding lowest sets.has sets.none sets.with without both either less below u16At u32At markAt functions nodes resultOf paramsOf varsOf maskOf countOf kindAt aAt bAt sizeAt sumOf startOf partOf firstOf shift orElse firstIn unless arities arityOf arityAt walk children differ isExpression wantsExpression wrongSort prior last shapes shapeAt readsFrom readsOf grow statementIn statementAt declares leaves missing lacks returns declaresAt declCount declOf under usesVariable paramType varType operatorType typesOf typeAt condition wantsOf wantAt suits agree records.within lengthOk headerOk recordsOk functionOk sumOk mainOk nodes.fields fieldsOk nodeOk nodes.total sizeOk wrongChild nodes.some misplaced undeclared firstUndeclared outside mistyped answers originOf inPart partQuestions questions refuse put checkOf ints.int ints.wrap operators.addOf operators.subOf operators.mulOf operators.quotOf operators.remOf operators.shlOf operators.shrOf operators.andOf operators.orOf operators.xorOf operators.ltOf operators.leOf operators.gtOf operators.geOf operators.eqOf operators.neOf operators.noQuotient operators.divided operators.shifted operators.results operators.applied backwards kids andOf looks lookAt refAt formOf formAt ifForm seqForm seeAt unrolled looped stmtAt typesFrom funOf programOf result runOf filled bit valueWords valuesWords nodesWords refWord block gathering frameWords controlWords activationWords savedActivations savedFrames headWords activationsOf framesOf image valueOf valuesOf nodesOf refOf operands frames frameOf controlOf activationOf framesHeld callersOf runningOf activationsIn framesIn states stateOf fitWords roomFor imageIn variableIn startAnswer memoryAnswer lookVerdict answered written startMemory runFrom runAnswer runMemory lookAnswer
+unfolding lowest sets.has sets.none sets.with without both either less below u16At u32At markAt functions nodes resultOf paramsOf varsOf maskOf countOf kindAt aAt bAt sizeAt sumOf startOf partOf firstOf shift orElse firstIn unless arities arityOf arityAt walk children differ isExpression wantsExpression wrongSort prior last shapes shapeAt readsFrom readsOf grow statementIn statementAt declares leaves missing lacks returns declaresAt declCount declOf under usesVariable paramType varType operatorType typesOf typeAt condition wantsOf wantAt suits agree records.within lengthOk headerOk recordsOk functionOk sumOk mainOk nodes.fields fieldsOk nodeOk nodes.total sizeOk wrongChild nodes.some misplaced undeclared firstUndeclared outside mistyped answers originOf inPart partQuestions questions refuse firstRefusal checkOf ints.int ints.wrap operators.addOf operators.subOf operators.mulOf operators.quotOf operators.remOf operators.shlOf operators.shrOf operators.andOf operators.orOf operators.xorOf operators.ltOf operators.leOf operators.gtOf operators.geOf operators.eqOf operators.neOf operators.noQuotient operators.divided operators.shifted operators.results operators.applied backwards kids andForm looks lookAt refAt formOf formAt ifForm seqForm seeAt unrolled looped stmtAt typesFrom funOf programOf result runOf filled bit valueWords valuesWords nodesWords refWord block gathering frameWords controlWords activationWords savedActivations savedFrames headWords activationsOf framesOf image valueOf valuesOf nodesOf refOf operands frames frameOf controlOf activationOf framesHeld callersOf runningOf activationsIn framesIn states stateOf fitWords roomFor imageIn variableIn startAnswer memoryAnswer lookVerdict byVerdict written startMemory runFrom runAnswer runMemory lookAnswer
 sample-list = (refl, refl, refl, refl, refl, refl, refl, refl, refl, refl)
 
 -- whether all are bytes
@@ -86,14 +86,14 @@ abbrev empty : Given
 empty = record { bytes = []; small = small [] refl }
 
 -- a run, a look-up, a refused run with no file, a memory check and a second start as one list, begun from a start: the theorem holds of it
-abbrev calls : List Calls
+abbrev calls : List AnyCall
 calls =
-    record { kind = Form.run; given = record { file = bytes; number = 5 } }
-    ∷ record { kind = Form.look; given = record { file = bytes; number = 0 } }
-    ∷ record { kind = Form.run; given = record { file = empty; number = 9 } }
-    ∷ record { kind = Form.memory; given = bytes }
-    ∷ record { kind = Form.start; given = bytes } ∷ []
+    record { kind = CallKind.run; given = record { file = bytes; number = 5 } }
+    ∷ record { kind = CallKind.look; given = record { file = bytes; number = 0 } }
+    ∷ record { kind = CallKind.run; given = record { file = empty; number = 9 } }
+    ∷ record { kind = CallKind.memory; given = bytes }
+    ∷ record { kind = CallKind.start; given = bytes } ∷ []
 
-sample-story : StoryOf begun calls bytes (record { state = main calm; history = [] })
-unfolding unless lengthOk questions refuse put memoryAnswer answered runAnswer
-sample-story = whole-lists bytes (record { state = main calm; history = [] }) begun (by-start dirty (sample-list .0)) calls ((λ t. refl), ((λ t. refl), ((λ t. absurd t), ((λ t. refl), ((λ t. refl), tt)))))
+sample-story : StoryOf begun calls bytes (record { state = main emptyEnv; history = [] })
+unfolding unless lengthOk questions refuse firstRefusal memoryAnswer byVerdict runAnswer
+sample-story = whole-lists bytes (record { state = main emptyEnv; history = [] }) begun (by-start dirty (sample-list .0)) calls ((λ t. refl), ((λ t. refl), ((λ t. absurd t), ((λ t. refl), ((λ t. refl), tt)))))

@@ -7,11 +7,11 @@ use lib.ListN.{getD}
 use Rattle.spec_language.specs.Check.{Verdict, accepted, refused}
 use Rattle.spec_machine.specs.Values.{Value}
 use Rattle.spec_machine.specs.Program.{Program}
-use Rattle.spec_machine.specs.Machine.{main, calm}
+use Rattle.spec_machine.specs.Machine.{main, emptyEnv}
 use Rattle.spec_machine.specs.Run.{Outcome, RunsTo, Ran, lookUp}
 use Rattle.spec_machine.specs.File.{programOf}
 use Rattle.spec_machine.specs.Calls.{Machine, CallForm}
-use Rattle.spec_answers.specs.Answers.{startAnswer, memoryAnswer, Told, told, turned, startMemory, runAnswer, runMemory, lookAnswer}
+use Rattle.spec_answers.specs.Answers.{startAnswer, memoryAnswer, Result, granted, denied, startMemory, runAnswer, runMemory, lookAnswer}
 
 -- what a call is given to read beside the memory: a file of bytes
 pub record Given : Type 0 where
@@ -24,82 +24,82 @@ pub record Asking : Type 0 where
   pub number : ℕ
 
 -- the forms
-pub data Form : Type 0 where
-  start run memory look : Form
+pub data CallKind : Type 0 where
+  start run memory look : CallKind
 
 -- what each form takes
-abbrev pub Input : Form → Type 0
-Input Form.start = Given
-Input Form.run = Asking
-Input Form.memory = Given
-Input Form.look = Asking
+abbrev pub Input : CallKind → Type 0
+Input CallKind.start = Given
+Input CallKind.run = Asking
+Input CallKind.memory = Given
+Input CallKind.look = Asking
 
 -- the file that each form is given
-abbrev pub readsOf : (k : Form) → Input k → Given
-readsOf Form.start i = i
-readsOf Form.run i = i .file
-readsOf Form.memory i = i
-readsOf Form.look i = i .file
+abbrev pub givenOf : (k : CallKind) → Input k → Given
+givenOf CallKind.start i = i
+givenOf CallKind.run i = i .file
+givenOf CallKind.memory i = i
+givenOf CallKind.look i = i .file
 
 -- the kind of answer of each form
-abbrev pub Reply : Form → Type 0
-Reply Form.start = Verdict
-Reply Form.run = Told Ran
-Reply Form.memory = Verdict
-Reply Form.look = Told Value
+abbrev pub AnswerType : CallKind → Type 0
+AnswerType CallKind.start = Verdict
+AnswerType CallKind.run = Result Ran
+AnswerType CallKind.memory = Verdict
+AnswerType CallKind.look = Result Value
 
 -- what each form answers: the definitions that the entry points promise
-abbrev pub answerOf : (k : Form) → Input k → List ℕ → Reply k
-answerOf Form.start i m = startAnswer (i .bytes) m
-answerOf Form.run i m = runAnswer (i .file .bytes) m (i .number)
-answerOf Form.memory i m = memoryAnswer (i .bytes) m
-answerOf Form.look i m = lookAnswer (i .file .bytes) m (i .number)
+abbrev pub answerOf : (k : CallKind) → Input k → List ℕ → AnswerType k
+answerOf CallKind.start i m = startAnswer (i .bytes) m
+answerOf CallKind.run i m = runAnswer (i .file .bytes) m (i .number)
+answerOf CallKind.memory i m = memoryAnswer (i .bytes) m
+answerOf CallKind.look i m = lookAnswer (i .file .bytes) m (i .number)
 
 -- what each form leaves in the memory; the memory check and the look-up are lent it to read alone
-abbrev pub memoryAfter : (k : Form) → Input k → List ℕ → List ℕ
-memoryAfter Form.start i m = startMemory (i .bytes) m
-memoryAfter Form.run i m = runMemory (i .file .bytes) m (i .number)
-memoryAfter Form.memory i m = m
-memoryAfter Form.look i m = m
+abbrev pub memoryAfter : (k : CallKind) → Input k → List ℕ → List ℕ
+memoryAfter CallKind.start i m = startMemory (i .bytes) m
+memoryAfter CallKind.run i m = runMemory (i .file .bytes) m (i .number)
+memoryAfter CallKind.memory i m = m
+memoryAfter CallKind.look i m = m
 
 -- a verdict that is no refusal
-abbrev pub Passed : Verdict → Type 0
-Passed accepted = Unit {0}
-Passed (refused q place item) = ⊥
+abbrev pub IsAccepted : Verdict → Type 0
+IsAccepted accepted = Unit {0}
+IsAccepted (refused q place item) = ⊥
 
 -- an answer that tells something
-abbrev pub Tells : {A : Type 0} → Told A → Type 0
-Tells (told a) = Unit {0}
-Tells (turned q place item) = ⊥
+abbrev pub IsGranted : {A : Type 0} → Result A → Type 0
+IsGranted (granted a) = Unit {0}
+IsGranted (denied q place item) = ⊥
 
 -- the answer of an accepted call
-abbrev pub Took : (k : Form) → Reply k → Type 0
-Took Form.start a = Passed a
-Took Form.run a = Tells a
-Took Form.memory a = Passed a
-Took Form.look a = Tells a
+abbrev pub Took : (k : CallKind) → AnswerType k → Type 0
+Took CallKind.start a = IsAccepted a
+Took CallKind.run a = IsGranted a
+Took CallKind.memory a = IsAccepted a
+Took CallKind.look a = IsGranted a
 
 -- a run by the rules, with an allowance, that answers with its outcome and its number of rules
-pub record Ends (P : Program) (allowance : ℕ) (a : Told Ran) (σ τ : Machine) : Type 0 where
+pub record RunDoes (P : Program) (allowance : ℕ) (a : Result Ran) (σ τ : Machine) : Type 0 where
   pub outcome : Outcome
   pub steps : ℕ
-  pub answer : a ≡ told (record { outcome = outcome; steps = steps; state = τ .state })
+  pub answer : a ≡ granted (record { outcome = outcome; steps = steps; state = τ .state })
   pub runs : RunsTo P (σ .state) (σ .history) allowance steps (τ .state) (τ .history) outcome
 
 -- a look-up that answers what the machine's variable holds
-pub record Shows (x : ℕ) (a : Told Value) (σ : Machine) : Type 0 where
+pub record LookDoes (x : ℕ) (a : Result Value) (σ : Machine) : Type 0 where
   pub value : Value
   pub there : lookUp (σ .state) x ≡ some value
-  pub answer : a ≡ told value
+  pub answer : a ≡ granted value
 
 -- what an accepted call does to the machine: start makes it main(), run takes it on, all else leaves it
-abbrev pub Does : (k : Form) → Input k → Reply k → Machine → Machine → Type 0
-Does Form.start i a σ τ = (τ .state ≡ main calm) × (τ .history ≡ [])
-Does Form.run i a σ τ = Ends (programOf (i .file .bytes)) (i .number) a σ τ
-Does Form.memory i a σ τ = τ ≡ σ
-Does Form.look i a σ τ = (τ ≡ σ) × Shows (i .number) a σ
+abbrev pub Does : (k : CallKind) → Input k → AnswerType k → Machine → Machine → Type 0
+Does CallKind.start i a σ τ = (τ .state ≡ main emptyEnv) × (τ .history ≡ [])
+Does CallKind.run i a σ τ = RunDoes (programOf (i .file .bytes)) (i .number) a σ τ
+Does CallKind.memory i a σ τ = τ ≡ σ
+Does CallKind.look i a σ τ = (τ ≡ σ) × LookDoes (i .number) a σ
 
 -- the four forms, as the statement over lists takes them
-abbrev pub form : Form → CallForm (List ℕ) Given (List ℕ) (λ e. e .bytes)
+abbrev pub form : CallKind → CallForm (List ℕ) Given (List ℕ) (λ e. e .bytes)
 form k =
-    record { In = Input k; Answer = Reply k; reads = readsOf k; answer = answerOf k; after = memoryAfter k; Took = Took k; Does = Does k }
+    record { In = Input k; Answer = AnswerType k; reads = givenOf k; answer = answerOf k; after = memoryAfter k; Took = Took k; Does = Does k }

@@ -5,7 +5,7 @@ use mathlib.Core.List.{List, []}
 use Prim.Native.Nat.{ℕ}
 use lib.ListN.{length, drop}
 use Rattle.spec_language.specs.Check.{accepted}
-use Rattle.spec_machine.specs.Machine.{State, exception, main, returned, running, calm}
+use Rattle.spec_machine.specs.Machine.{State, exception, main, returned, running, emptyEnv}
 use Rattle.spec_machine.specs.Run.{allHeld}
 use Rattle.spec_machine.specs.File.{programOf}
 use Rattle.spec_machine.specs.Applies.{One}
@@ -14,11 +14,11 @@ use Rattle.spec_machine.specs.Calls.{Machine, Call, OneFile, Story}
 use Rattle.spec_image.specs.Decode.{stateOf}
 use Rattle.spec_image.specs.Memory.{size, Holds}
 use Rattle.spec_answers.specs.Answers.{startAnswer, memoryAnswer, startMemory}
-use Rattle.spec_lists.specs.Forms.{Given, Form, form}
+use Rattle.spec_lists.specs.Forms.{Given, CallKind, form}
 
 -- the list begins with memory that a start wrote over any content M, or that passed the memory check
 pub data Begins (e : Given) : Machine → List ℕ → Type 0 where
-  by-start : (M : List ℕ) → startAnswer (e .bytes) M ≡ accepted → Begins e (record { state = main calm; history = [] }) (startMemory (e .bytes) M)
+  by-start : (M : List ℕ) → startAnswer (e .bytes) M ≡ accepted → Begins e (record { state = main emptyEnv; history = [] }) (startMemory (e .bytes) M)
   stored : (M : List ℕ) → memoryAnswer (e .bytes) M ≡ accepted → Begins e (record { state = stateOf M; history = allHeld (stateOf M) }) M
 
 -- the memory m holds the image of the state; its later words and its length are those of M, which the list begins from
@@ -43,13 +43,13 @@ pub record Last (M : List ℕ) (e : Given) (m : List ℕ) (σ : Machine) : Type 
   pub held : Image M (σ .state) m
 
 -- a call of one of the four forms
-abbrev pub Calls : Type 0
-Calls = Call (List ℕ) Given (List ℕ) (λ e. e .bytes) Form form
+abbrev pub AnyCall : Type 0
+AnyCall = Call (List ℕ) Given (List ℕ) (λ e. e .bytes) CallKind form
 
 -- in a list begun from the memory M every accepted call has the file φ, a refused one any
-abbrev pub OneFileIn : (M φ : List ℕ) → List Calls → Type 0
-OneFileIn M φ cs = OneFile (List ℕ) Given (List ℕ) (λ e. e .bytes) Form form φ cs M
+abbrev pub OneFileIn : (M φ : List ℕ) → List AnyCall → Type 0
+OneFileIn M φ cs = OneFile (List ℕ) Given (List ℕ) (λ e. e .bytes) CallKind form φ cs M
 
 -- the machine call by call, from the memory M and the machine σ, and `Last` at the end
-abbrev pub StoryOf : List ℕ → List Calls → Given → Machine → Type 0
-StoryOf M cs e σ = Story (List ℕ) Given (List ℕ) (λ e. e .bytes) Form form (Image M) (Last M) cs e M σ
+abbrev pub StoryOf : List ℕ → List AnyCall → Given → Machine → Type 0
+StoryOf M cs e σ = Story (List ℕ) Given (List ℕ) (λ e. e .bytes) CallKind form (Image M) (Last M) cs e M σ

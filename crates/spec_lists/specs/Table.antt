@@ -8,16 +8,16 @@ use Rattle.arith.specs.Int.{int}
 use Rattle.spec_machine.specs.Machine as machine
 use Rattle.spec_machine.specs.Run.{Outcome, raised}
 use Rattle.spec_machine.specs.Run as run
-use Rattle.spec_answers.specs.Answers.{Told, told, turned, startMemory, runAnswer}
+use Rattle.spec_answers.specs.Answers.{Result, granted, denied, startMemory, runAnswer}
 
 -- an outcome with the steps taken, its int signed (`negsuc n` is −(n + 1)), or a refusal by number, place and item
-pub data Answer : Type 0 where
-  value : ℤ → ℕ → Answer
-  arith abort Spent Full : ℕ → Answer
-  refused : ℕ → ℕ → ℕ → Answer
+pub data RowAnswer : Type 0 where
+  value : ℤ → ℕ → RowAnswer
+  arith abort Spent Full : ℕ → RowAnswer
+  refused : ℕ → ℕ → ℕ → RowAnswer
 
 -- an outcome after so many steps
-abbrev pub after : Outcome → ℕ → Answer
+abbrev pub after : Outcome → ℕ → RowAnswer
 after (Outcome.value c) k = value (int c) k
 after (raised machine.arith) k = arith k
 after (raised machine.abort) k = abort k
@@ -25,23 +25,23 @@ after run.Spent k = Spent k
 after run.Full k = Full k
 
 -- what a run answers
-abbrev pub answer : Told run.Ran → Answer
-answer (told r) = after (r .outcome) (r .steps)
-answer (turned question place item) = refused question place item
+abbrev pub rowAnswer : Result run.Ran → RowAnswer
+rowAnswer (granted r) = after (r .outcome) (r .steps)
+rowAnswer (denied question place item) = refused question place item
 
 -- a file, an allowance, and what is answered
-pub data Row : Type 0 where
-  row : List ℕ → ℕ → Answer → Row
+pub data TableRow : Type 0 where
+  row : List ℕ → ℕ → RowAnswer → TableRow
 
-abbrev pub expected : Row → Answer
+abbrev pub expected : TableRow → RowAnswer
 expected (row s a r) = r
 
 -- the answer of a run from memory of zeros that a start was given before
-abbrev pub answered : Row → Answer
-answered (row s a r) = answer (runAnswer s (startMemory s (replicate 16384 0)) a)
+abbrev pub answerOfRow : TableRow → RowAnswer
+answerOfRow (row s a r) = rowAnswer (runAnswer s (startMemory s (replicate 16384 0)) a)
 
 -- the rows, each with the body of main; where document 01 gives no allowance it is enough
-abbrev pub rows : List Row
+abbrev pub rows : List TableRow
 rows =
     -- return 0
     row (alone 0 2 (node 0 0 0 1 ++ node 12 0 0 2)) 4 (value (pos 0) 4)

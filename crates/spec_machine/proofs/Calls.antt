@@ -5,7 +5,7 @@ use Rattle.spec_machine.specs.Program.{Program}
 use Rattle.spec_machine.specs.Machine.{State}
 use Rattle.spec_machine.specs.Fit.{Fit}
 use Rattle.spec_machine.specs.Run.{allHeld}
-use Rattle.spec_machine.specs.Calls.{Machine, CallForm, Call, readsOf, afterOf, Accepts, OneFile, Handled, does, stays, Story, end, then}
+use Rattle.spec_machine.specs.Calls.{Machine, CallForm, Call, givenTo, afterOf, Accepts, OneFile, Handled, does, stays, Story, end, then}
 
 -- files with their programs, what a call is given to read, memories, and which memory holds a state's image
 module _ (File Given Mem : Type 0) (file : Given → File) (program : File → Program) (Image : State → Mem → Type 0) where
@@ -28,7 +28,7 @@ module _ (File Given Mem : Type 0) (file : Given → File) (program : File → P
     C = Call File Given Mem file Kind form
 
     abbrev reads : C → Given
-    reads c = readsOf File Given Mem file Kind form c
+    reads c = givenTo File Given Mem file Kind form c
 
     abbrev after : C → Mem → Mem
     after c m = afterOf File Given Mem file Kind form c m

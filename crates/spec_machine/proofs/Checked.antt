@@ -16,7 +16,7 @@ use Rattle.spec_language.proofs.Facts.{operator-fields, variable-fields, assign
 use Rattle.spec_language.proofs.Accept.{Accepted}
 use Rattle.spec_language.proofs.Tiles.{Each}
 use Rattle.spec_language.proofs.Typings.{fields-at, operator-wants, and-wants, call-wants, assign-wants, if-wants, while-wants, return-wants, assert-wants}
-use Rattle.spec_machine.specs.Program.{op, fn, Ref, node, ifOf, seqOf, Look, apply, Form, typeN}
+use Rattle.spec_machine.specs.Program.{op, fn, Ref, node, ifOf, seqOf, ExprForm, apply, StmtForm, typeN}
 use Rattle.spec_machine.specs.Fit.{isExpr, isStmt, IsExpr, IsStmt, AllExpr}
 use Rattle.spec_machine.specs.File.{kids, lookAt, formAt, ifForm, seqForm, seeAt, funOf, programOf}
 use Rattle.spec_machine.proofs.Accepted.{GoodE, GoodS}
@@ -49,7 +49,7 @@ module _ (s : List ℕ) (h : Accepted s) (f : ℕ) (l : f < functions s) where
         let b = expression-at s h f l i 3 0 1 p e refl refl in
         rw (two-kids t i (rw e)) ((a .0, (b .0, tt)), rw (a .1 ∙ w .0, b .1 ∙ w .1), operator-fields s f (aAt t i) (bAt t i) (fields-at s h f l i 3 p e))
 
-    and-good : kindAt t i ≡ 4 → GoodE (programOf s) f (Look.and (prior t (last i)) (last i))
+    and-good : kindAt t i ≡ 4 → GoodE (programOf s) f (ExprForm.and (prior t (last i)) (last i))
     unfolding arityOf arities wantsExpression
     and-good e =
         let w = and-wants s h f l i p e in
@@ -98,23 +98,23 @@ module _ (s : List ℕ) (h : Accepted s) (f : ℕ) (l : f < functions s) where
 
   -- the if and the seq of a while
   module _ (w : ℕ) (p : w < n) where
-    pub if-good : (x : Form) → formAt t w ≡ x → isStmt (ifForm w x) ≡ true → GoodS (programOf s) f (ifForm w x)
+    pub if-good : (x : StmtForm) → formAt t w ≡ x → isStmt (ifForm w x) ≡ true → GoodS (programOf s) f (ifForm w x)
     unfolding programOf seeAt ifForm seqForm
     if-good x q r =
         by-while w x
         (λ v e a z.
-        let y : formAt t w ≡ Form.while v e a = q ∙ z in
-        let g : GoodS (programOf s) f (Form.while v e a) = rw y at (statement-good w p (rw y)) in
+        let y : formAt t w ≡ StmtForm.while v e a = q ∙ z in
+        let g : GoodS (programOf s) f (StmtForm.while v e a) = rw y at (statement-good w p (rw y)) in
         rw z (g .0, g .1, (lt-ltb w n p, rw y), (refl, refl)))
         (λ z y. absurd (false≢true (rw z at r)))
 
-    pub seq-good : (x : Form) → formAt t w ≡ x → isStmt (seqForm w x) ≡ true → GoodS (programOf s) f (seqForm w x)
+    pub seq-good : (x : StmtForm) → formAt t w ≡ x → isStmt (seqForm w x) ≡ true → GoodS (programOf s) f (seqForm w x)
     unfolding programOf seeAt seqForm
     seq-good x q r =
         by-while w x
         (λ v e a z.
-        let y : formAt t w ≡ Form.while v e a = q ∙ z in
-        let g : GoodS (programOf s) f (Form.while v e a) = rw y at (statement-good w p (rw y)) in
+        let y : formAt t w ≡ StmtForm.while v e a = q ∙ z in
+        let g : GoodS (programOf s) f (StmtForm.while v e a) = rw y at (statement-good w p (rw y)) in
         rw z (g .2, (rw (y, lt-ltb w n p), rw y)))
         (λ z y. absurd (false≢true (rw y at r)))
 

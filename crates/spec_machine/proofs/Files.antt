@@ -29,7 +29,7 @@ use Rattle.spec_language.proofs.Flows.{Scope, reads-more}
 use Rattle.spec_language.proofs.Subtrees.{child-of, child-at, reads-child, reads-variable}
 use Rattle.spec_language.proofs.Scoping.{scopeAt, scoped}
 use Rattle.spec_machine.specs.Values.{int}
-use Rattle.spec_machine.specs.Program.{Ref, node, ifOf, seqOf, Look, const, apply, Form, Program, varTypes}
+use Rattle.spec_machine.specs.Program.{Ref, node, ifOf, seqOf, ExprForm, const, apply, StmtForm, Program, varTypes}
 use Rattle.spec_machine.specs.Fit.{isStmt, IsExpr, IsStmt, Reads, ReadsNodes}
 use Rattle.spec_machine.specs.File.{kids, looks, lookAt, refAt, formOf, formAt, ifForm, seqForm, seeAt, unrolled, looped, stmtAt, typesFrom, funOf, programOf}
 use Rattle.spec_machine.proofs.Accepted.{GoodE, GoodS, paramSet, Real, Accepted}
@@ -65,7 +65,7 @@ module _ (s : List ℕ) (h : accept.Accepted s) (f : ℕ) (l : functions s ≤ f
   unfolding lookAt looks
   empty-look i = rw (empty-kind i)
 
-  empty-form : (i : ℕ) → formAt (partOf s f) i ≡ Form.stray
+  empty-form : (i : ℕ) → formAt (partOf s f) i ≡ StmtForm.stray
   unfolding formAt formOf shapeAt shapes
   empty-form zero = rw (empty-kind 0)
   empty-form (suc i) = rw (empty-kind (suc i))
@@ -106,12 +106,12 @@ scope-seq u (Expr e) g = tt
 -- ---- reads
 
 -- what the reads of an expression say of its one level
-abbrev ReadsLook : Program → ℕ → Set → Look → Type 0
+abbrev ReadsLook : Program → ℕ → Set → ExprForm → Type 0
 ReadsLook P f d (const v) = Unit {0}
-ReadsLook P f d (Look.var x) = d x ≡ true
+ReadsLook P f d (ExprForm.var x) = d x ≡ true
 ReadsLook P f d (apply h ns) = ReadsNodes P f ns d
-ReadsLook P f d (Look.and n m) = Reads P f n d × Reads P f m d
-ReadsLook P f d Look.stray = Unit {0}
+ReadsLook P f d (ExprForm.and n m) = Reads P f n d × Reads P f m d
+ReadsLook P f d ExprForm.stray = Unit {0}
 
 each-reads : (P : Program) (f : ℕ) (d : Set) (ns : List ℕ) → Each (λ n. Reads P f n d) ns → ReadsNodes P f ns d
 each-reads P f d [] e = tt

@@ -13,27 +13,27 @@ use Rattle.varset.specs.Sets.{with, without}
 use Rattle.records.proofs.Bools.{by}
 use Rattle.spec_machine.specs.Values.{Ty, tNone, Value, nothing, int, truth, typeV}
 use Rattle.spec_machine.specs.Machine.{blank}
-use Rattle.spec_machine.specs.Fit.{Hold, Holds, isSome, held}
+use Rattle.spec_machine.specs.Fit.{HoldsTyped, AllHoldTyped, isSome, held}
 use Rattle.spec_machine.proofs.Accepted.{Real}
 
-pub holds-length : (η : List Value) (ts : List Ty) → Holds η ts → length η ≡ length ts
+pub holds-length : (η : List Value) (ts : List Ty) → AllHoldTyped η ts → length η ≡ length ts
 holds-length [] [] h = refl
 holds-length [] (t ∷ ts) h = absurd h
 holds-length (v ∷ vs) [] h = absurd h
 holds-length (v ∷ vs) (t ∷ ts) h = ap suc (holds-length vs ts (h .1))
 
-pub holds-set : (η : List Value) (ts : List Ty) (x : ℕ) (v : Value) → Hold v (getD ts x tNone) → Holds η ts → Holds (set η x v) ts
+pub holds-set : (η : List Value) (ts : List Ty) (x : ℕ) (v : Value) → HoldsTyped v (getD ts x tNone) → AllHoldTyped η ts → AllHoldTyped (set η x v) ts
 holds-set [] ts x v k h = h
 holds-set (w ∷ η) [] x v k h = absurd h
 holds-set (w ∷ η) (t ∷ ts) zero v k h = (k, h .1)
 holds-set (w ∷ η) (t ∷ ts) (suc x) v k h = (h .0, holds-set η ts x v k (h .1))
 
-some-held : (v : Value) (t : Ty) → isSome v ≡ true → Hold v t → typeV v ≡ t
+some-held : (v : Value) (t : Ty) → isSome v ≡ true → HoldsTyped v t → typeV v ≡ t
 some-held v t e (inl n) = absurd (false≢true (rw n at e))
 some-held v t e (inr k) = k
 
 -- what is read is a value of its type
-pub read-type : (η : List Value) (ts : List Ty) (x : ℕ) → Holds η ts → held η x ≡ true → typeV (getD η x nothing) ≡ getD ts x tNone
+pub read-type : (η : List Value) (ts : List Ty) (x : ℕ) → AllHoldTyped η ts → held η x ≡ true → typeV (getD η x nothing) ≡ getD ts x tNone
 read-type [] ts x h e = absurd (false≢true e)
 read-type (v ∷ η) [] x h e = absurd h
 read-type (v ∷ η) (t ∷ ts) zero h e = some-held v t e (h .0)
@@ -73,11 +73,11 @@ cleared-is η x =
     (λ p. rw (p, getD-set-other η x y nothing nothing (eqb-false y x p)) (and-true (held η y)))
 
 -- at entry
-blank-holds : (ls : List Ty) → Holds (blank ls) ls
+blank-holds : (ls : List Ty) → AllHoldTyped (blank ls) ls
 blank-holds [] = tt
 blank-holds (l ∷ ls) = (inl refl, blank-holds ls)
 
-pub enter-holds : (vs : List Value) (ls : List Ty) → Holds (vs ++ blank ls) (map typeV vs ++ ls)
+pub enter-holds : (vs : List Value) (ls : List Ty) → AllHoldTyped (vs ++ blank ls) (map typeV vs ++ ls)
 enter-holds [] ls = blank-holds ls
 enter-holds (v ∷ vs) ls = (inr refl, enter-holds vs ls)
 

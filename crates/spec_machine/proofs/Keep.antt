@@ -11,7 +11,7 @@ use Rattle.spec_language.specs.Statements.{Statement, While}
 use Rattle.spec_language.specs.Flow.{leaves, returns}
 use Rattle.spec_language.proofs.Flows.{Scope, ok-seq, ok-assign, ok-decl, ok-if, ok-return, ok-assert, ok-expr, while-ok, while-leaves}
 use Rattle.spec_machine.specs.Values.{tBool, Value, nothing, typeV}
-use Rattle.spec_machine.specs.Program.{fn, node, Look, apply, Form, Program, owns, varTypes, varType, gives}
+use Rattle.spec_machine.specs.Program.{fn, node, ExprForm, apply, StmtForm, Program, owns, varTypes, typeOfVar, gives}
 use Rattle.spec_machine.specs.Machine.{saved, State, Rule, Event, Step, first, enter, op-value, op-arith, and-first, and-false, and-true, call-none, call-main, assert-true, assert-false, if-true, if-false, leave-main}
 use Rattle.spec_machine.specs.Fit.{owned, held, Takes, comes, Proper}
 use Rattle.spec_machine.proofs.Accepted.{GoodE, GoodS, Accepted}
@@ -47,18 +47,18 @@ module _ {P : Program} (c : Accepted P) where
   keep (op-value {o = p} {a} {b} {v} e) o = moves o (rw (result-type (P .edition) p a b v e) (o .frames .2)) (o .flows .1) (o .returns)
   keep (op-arith e) o = tt
   keep (and-first {m} {n} {l} {f} {η} {K} e) o =
-      let g : GoodE P f (Look.and n l) = rw e at (c .exprs f m (o .frames .0)) in
+      let g : GoodE P f (ExprForm.and n l) = rw e at (c .exprs f m (o .frames .0)) in
       let k : Takes P f tBool K = rw e at (o .frames .2) in
       let r = c .reads-and f m n l (held η) (o .frames .0) e (o .flows .0) in
       turns-to o n (g .0 .0) (g .0 .1, g .1 .0, g .1 .1, k) (r .0) (r .1, o .flows .1) (o .returns)
   keep and-false o = moves o (o .frames .3) (o .flows .1) (o .returns)
   keep (and-true {l}) o = turns-to o l (o .frames .1) (rw (o .frames .2) (o .frames .3)) (o .flows .0) (o .flows .1) (o .returns)
   keep (Step.var {m} {x} {f} {η} {K} e) o =
-      let k : Takes P f (varType (P .fun f) x) K = rw e at (o .frames .2) in
+      let k : Takes P f (typeOfVar (P .fun f) x) K = rw e at (o .frames .2) in
       let r = c .reads-var f m x (held η) (o .frames .0) e (o .flows .0) in
       moves o (rw (read-type η (varTypes (P .fun f)) x (o .holds) r) k) (o .flows .1) (o .returns)
   keep (Step.seq {r} {a} {b} {f} {η} {K} e) o =
-      let g : GoodS P f (Form.seq a b) = rw e at (c .stmts f r (o .frames .0)) in
+      let g : GoodS P f (StmtForm.seq a b) = rw e at (c .stmts f r (o .frames .0)) in
       let w = rw (seen P c f r e) at (o .flows) in
       let k = ok-seq (held η) (P .stmt f a) (P .stmt f b) .0 (w .0) in
       moves o (g .0, (g .1, o .frames .1)) (k .0, (k .1, w .1))
@@ -67,14 +67,14 @@ module _ {P : Program} (c : Accepted P) where
       let w = rw (seen P c f r e) at (o .flows) in
       moves o (o .frames .1) (w .1) (rw (seen P c f r e) at (o .returns))
   keep (Step.assign {r} {x} {n} {f} {η} e) o =
-      let g : GoodS P f (Form.assign x n) = rw e at (c .stmts f r (o .frames .0)) in
+      let g : GoodS P f (StmtForm.assign x n) = rw e at (c .stmts f r (o .frames .0)) in
       let w = rw (seen P c f r e) at (o .flows) in
       turns-to o n (g .0) (g .1, g .2, o .frames .1) (ok-assign (held η) x (P .reads f n) .0 (w .0)) (w .1) (rw (seen P c f r e) at (o .returns))
   keep (Step.store {v} {x} {f} {η} {K} {A} {α}) o =
       passes-on P c α f (set η x v) K A (o .callers) (o .known) (holds-set η (varTypes (P .fun f)) x v (inr (o .frames .0)) (o .holds)) (o .frames .2)
       (rw (← store-is P c o) (o .flows)) (o .returns)
   keep (Step.decl {r} {a} {x} {f} {η} {K} e) o =
-      let g : GoodS P f (Form.decl x a) = rw e at (c .stmts f r (o .frames .0)) in
+      let g : GoodS P f (StmtForm.decl x a) = rw e at (c .stmts f r (o .frames .0)) in
       let w = rw (seen P c f r e) at (o .flows) in
       let s : Statement = P .stmt f a in
       record {
@@ -86,13 +86,13 @@ module _ {P : Program} (c : Accepted P) where
         returns = rw (seen P c f r e) at (o .returns);
       }
   keep (Step.assert {r} {n} {f} {η} e) o =
-      let g : GoodS P f (Form.assert n) = rw e at (c .stmts f r (o .frames .0)) in
+      let g : GoodS P f (StmtForm.assert n) = rw e at (c .stmts f r (o .frames .0)) in
       let w = rw (seen P c f r e) at (o .flows) in
       turns-to o n (g .0) (g .1, o .frames .1) (ok-assert (held η) (P .reads f n) .0 (w .0)) (w .1) (rw (seen P c f r e) at (o .returns))
   keep (assert-true {f} {η} {K} {A} {α}) o = passes-on P c α f η K A (o .callers) (o .known) (o .holds) (o .frames .1) (o .flows) (o .returns)
   keep assert-false o = tt
   keep (Step.if {r} {a} {b} {n} {f} {η} e) o =
-      let g : GoodS P f (Form.if n a b) = rw e at (c .stmts f r (o .frames .0)) in
+      let g : GoodS P f (StmtForm.if n a b) = rw e at (c .stmts f r (o .frames .0)) in
       let w = rw (seen P c f r e) at (o .flows) in
       let k = ok-if (held η) (P .reads f n) (P .stmt f a) (P .stmt f b) .0 (w .0) in
       turns-to o n (g .0) (g .1, g .2, g .3, o .frames .1) (k .0) (k .1, k .2, w .1) (rw (seen P c f r e) at (o .returns))
@@ -114,7 +114,7 @@ module _ {P : Program} (c : Accepted P) where
       (while-ok (P .reads f n) (P .stmt f a) (held η) (u .0) k (d .0), flows-mono P f K _ _ (while-leaves (P .reads f n) (P .stmt f a) (held η)) (d .1)))
       (rw (unrolled P c f w n r a e, false-right) b)
   keep (Step.expr {r} {n} {f} {η} e) o =
-      let g : GoodS P f (Form.expr n) = rw e at (c .stmts f r (o .frames .0)) in
+      let g : GoodS P f (StmtForm.expr n) = rw e at (c .stmts f r (o .frames .0)) in
       let w = rw (seen P c f r e) at (o .flows) in
       turns-to o n g (o .frames .1) (ok-expr (held η) (P .reads f n) .0 (w .0)) (w .1) (rw (seen P c f r e) at (o .returns))
   keep (Step.discard {v} {f} {η} {K} {A} {α}) o = passes-on P c α f η K A (o .callers) (o .known) (o .holds) (o .frames) (o .flows) (o .returns)
@@ -127,7 +127,7 @@ module _ {P : Program} (c : Accepted P) where
       enters P c α g [] (saved f η K ∷ A) (t .1) (o .holds, k, o .flows .1, o .returns, o .callers, o .known) (t .2)
   keep (call-main {α}) o = enters P c α 0 [] [] (c .main-takes) refl (c .main-known)
   keep (Step.return {r} {n} {f} {η} e) o =
-      let g : GoodS P f (Form.return n) = rw e at (c .stmts f r (o .frames .0)) in
+      let g : GoodS P f (StmtForm.return n) = rw e at (c .stmts f r (o .frames .0)) in
       let w = rw (seen P c f r e) at (o .flows) in
       turns-to o n (g .0) (g .1, o .frames .1) (ok-return (held η) (P .reads f n) .0 (w .0)) (w .1) refl
   keep Step.leave o =

@@ -12,11 +12,11 @@ use Rattle.varset.specs.Lowest.{pick}
 use Rattle.records.specs.Fields.{kindAt, aAt, bAt}
 use Rattle.records.specs.Children.{arities, arityOf, arityAt, walk, children}
 use Rattle.spec_language.specs.Statements.{Shape, prior, last, shapes, shapeAt, readsOf, Nop, statementIn, statementAt}
-use Rattle.records.proofs.Tables.{entry-at}
+use Rattle.records.proofs.EntryTables.{entry-at}
 use Rattle.spec_language.proofs.Trees.{statement-seq, statement-assign, statement-decl, statement-if, statement-while, statement-return, statement-assert, statement-expr, statement-rest, statement-nop}
 use Rattle.spec_machine.specs.Values.{nothing, int, truth}
-use Rattle.spec_machine.specs.Program.{op, fn, Ref, node, ifOf, seqOf, Look, const, apply, Form, growF}
-use Rattle.spec_machine.specs.File.{backwards, kids, andOf, looks, lookAt, refAt, formOf, formAt, ifForm, seqForm, seeAt, unrolled, looped, stmtAt}
+use Rattle.spec_machine.specs.Program.{op, fn, Ref, node, ifOf, seqOf, ExprForm, const, apply, StmtForm, growF}
+use Rattle.spec_machine.specs.File.{backwards, kids, andForm, looks, lookAt, refAt, formOf, formAt, ifForm, seqForm, seeAt, unrolled, looped, stmtAt}
 
 module _ (t : List ℕ) (i : ℕ) where
   -- an operator and an && have two children
@@ -24,50 +24,50 @@ module _ (t : List ℕ) (i : ℕ) where
   unfolding kids backwards children walk last prior
   two-kids e = rw e
 
-  and-is : kindAt t i ≡ 4 → andOf (kids t i) ≡ Look.and (prior t (last i)) (last i)
-  unfolding andOf arityAt arityOf arities
+  and-is : kindAt t i ≡ 4 → andForm (kids t i) ≡ ExprForm.and (prior t (last i)) (last i)
+  unfolding andForm arityAt arityOf arities
   and-is e = rw (two-kids (rw e))
 
   -- a property of each kind's expression
-  pub by-look : (P : Look → Type 0)
+  pub by-look : (P : ExprForm → Type 0)
       → (kindAt t i ≡ 0 → P (const (int (bAt t i))))
       → (kindAt t i ≡ 1 → P (const (truth (eqb (bAt t i) 1))))
-      → (kindAt t i ≡ 2 → P (Look.var (bAt t i)))
+      → (kindAt t i ≡ 2 → P (ExprForm.var (bAt t i)))
       → (kindAt t i ≡ 3 → P (apply (op (aAt t i)) (kids t i)))
-      → (kindAt t i ≡ 4 → P (Look.and (prior t (last i)) (last i)))
+      → (kindAt t i ≡ 4 → P (ExprForm.and (prior t (last i)) (last i)))
       → (kindAt t i ≡ 5 → P (apply (fn (bAt t i)) (kids t i)))
       → (kindAt t i ≡ 15 → P (const nothing))
-      → (6 ≤ kindAt t i → (kindAt t i ≡ 15 → ⊥) → P Look.stray)
+      → (6 ≤ kindAt t i → (kindAt t i ≡ 15 → ⊥) → P ExprForm.stray)
       → P (lookAt t i)
   unfolding lookAt looks
   by-look P c b v o a f n z = go (eqb (kindAt t i) 15) refl
     where
-      go : (q : Bool) → eqb (kindAt t i) 15 ≡ q → P (pick q (const nothing) (getD (looks t i) (kindAt t i) Look.stray))
+      go : (q : Bool) → eqb (kindAt t i) 15 ≡ q → P (pick q (const nothing) (getD (looks t i) (kindAt t i) ExprForm.stray))
       go true e = n (eqb-true _ _ e)
       go false e =
-          entry-at (λ k l. kindAt t i ≡ k → P l) (looks t i) Look.stray
+          entry-at (λ k l. kindAt t i ≡ k → P l) (looks t i) ExprForm.stray
           (c, (b, (v, (o, (λ q. rw (and-is q) (a q), (f, tt))))))
           (λ k l q. z (rw q l) (eqb-false _ _ e)) (kindAt t i) refl
 
   -- a property of each kind's statement; node 0 is a nop or no statement
-  pub by-form : (P : Form → Type 0)
-      → (kindAt t i ≡ 6 → P Form.nop)
-      → (kindAt t i ≡ 7 → 0 < i → P (Form.seq (refAt t (prior t (last i))) (refAt t (last i))))
-      → (kindAt t i ≡ 8 → 0 < i → P (Form.assign (bAt t i) (last i)))
-      → (kindAt t i ≡ 9 → 0 < i → P (Form.decl (bAt t i) (refAt t (last i))))
-      → (kindAt t i ≡ 10 → 0 < i → P (Form.if (prior t (prior t (last i))) (refAt t (prior t (last i))) (refAt t (last i))))
-      → (kindAt t i ≡ 11 → 0 < i → P (Form.while i (prior t (last i)) (refAt t (last i))))
-      → (kindAt t i ≡ 12 → 0 < i → P (Form.return (last i)))
-      → (kindAt t i ≡ 13 → 0 < i → P (Form.assert (last i)))
-      → (kindAt t i ≡ 14 → 0 < i → P (Form.expr (last i)))
-      → ((kindAt t i ≡ 6 → ⊥) → (0 < i → (kindAt t i < 6) ⊎ (15 ≤ kindAt t i)) → P Form.stray)
+  pub by-form : (P : StmtForm → Type 0)
+      → (kindAt t i ≡ 6 → P StmtForm.nop)
+      → (kindAt t i ≡ 7 → 0 < i → P (StmtForm.seq (refAt t (prior t (last i))) (refAt t (last i))))
+      → (kindAt t i ≡ 8 → 0 < i → P (StmtForm.assign (bAt t i) (last i)))
+      → (kindAt t i ≡ 9 → 0 < i → P (StmtForm.decl (bAt t i) (refAt t (last i))))
+      → (kindAt t i ≡ 10 → 0 < i → P (StmtForm.if (prior t (prior t (last i))) (refAt t (prior t (last i))) (refAt t (last i))))
+      → (kindAt t i ≡ 11 → 0 < i → P (StmtForm.while i (prior t (last i)) (refAt t (last i))))
+      → (kindAt t i ≡ 12 → 0 < i → P (StmtForm.return (last i)))
+      → (kindAt t i ≡ 13 → 0 < i → P (StmtForm.assert (last i)))
+      → (kindAt t i ≡ 14 → 0 < i → P (StmtForm.expr (last i)))
+      → ((kindAt t i ≡ 6 → ⊥) → (0 < i → (kindAt t i < 6) ⊎ (15 ≤ kindAt t i)) → P StmtForm.stray)
       → P (formAt t i)
   by-form P n s a d f w r c e z = first i refl
     where
-      none : (k : ℕ) → k < 6 → kindAt t i ≡ k → P Form.stray
+      none : (k : ℕ) → k < 6 → kindAt t i ≡ k → P StmtForm.stray
       none k l q = z (λ p. omega arith) (λ p. inl (omega arith))
 
-      past : (k : ℕ) → 15 ≤ k → kindAt t i ≡ k → P Form.stray
+      past : (k : ℕ) → 15 ≤ k → kindAt t i ≡ k → P StmtForm.stray
       past k l q = z (λ p. omega arith) (λ p. inr (omega arith))
 
       table : 0 < i → P (formOf t i (shapeAt t i))
@@ -76,7 +76,7 @@ module _ (t : List ℕ) (i : ℕ) where
           (none 0 (omega arith), (none 1 (omega arith), (none 2 (omega arith), (none 3 (omega arith), (none 4 (omega arith), (none 5 (omega arith), (n, (λ q. s q p, (λ q. a q p, (λ q. d q p, (λ q. f q p, (λ q. w q p, (λ q. r q p, (λ q. c q p, (λ q. e q p, tt)))))))))))))))
           past (kindAt t i) refl)
 
-      zeroth : i ≡ 0 → (b : Bool) → eqb (kindAt t i) 6 ≡ b → P (pick b Form.nop Form.stray)
+      zeroth : i ≡ 0 → (b : Bool) → eqb (kindAt t i) 6 ≡ b → P (pick b StmtForm.nop StmtForm.stray)
       zeroth q true k = n (eqb-true _ _ k)
       zeroth q false k = z (eqb-false _ _ k) (λ p. absurd (omega arith))
 
@@ -116,34 +116,34 @@ module _ (t : List ℕ) where
       (λ k h. stray-tree i h)
 
   module _ (w : ℕ) where
-    abbrev Grows : Form → Type 0
+    abbrev Grows : StmtForm → Type 0
     Grows s = statementAt t w ≡ growF (readsOf t) (stmtAt t) s
 
-    if-tree : (s : Form) → Grows s → unrolled (statementAt t w) ≡ growF (readsOf t) (stmtAt t) (ifForm w s)
+    if-tree : (s : StmtForm) → Grows s → unrolled (statementAt t w) ≡ growF (readsOf t) (stmtAt t) (ifForm w s)
     unfolding unrolled looped ifForm stmtAt
-    if-tree (Form.while v e a) q = rw q
-    if-tree Form.nop q = rw q
-    if-tree (Form.seq a b) q = rw q
-    if-tree (Form.assign x e) q = rw q
-    if-tree (Form.decl x a) q = rw q
-    if-tree (Form.if e a b) q = rw q
-    if-tree (Form.return e) q = rw q
-    if-tree (Form.assert e) q = rw q
-    if-tree (Form.expr e) q = rw q
-    if-tree Form.stray q = rw q
+    if-tree (StmtForm.while v e a) q = rw q
+    if-tree StmtForm.nop q = rw q
+    if-tree (StmtForm.seq a b) q = rw q
+    if-tree (StmtForm.assign x e) q = rw q
+    if-tree (StmtForm.decl x a) q = rw q
+    if-tree (StmtForm.if e a b) q = rw q
+    if-tree (StmtForm.return e) q = rw q
+    if-tree (StmtForm.assert e) q = rw q
+    if-tree (StmtForm.expr e) q = rw q
+    if-tree StmtForm.stray q = rw q
 
-    seq-tree : (s : Form) → Grows s → looped (statementAt t w) ≡ growF (readsOf t) (stmtAt t) (seqForm w s)
+    seq-tree : (s : StmtForm) → Grows s → looped (statementAt t w) ≡ growF (readsOf t) (stmtAt t) (seqForm w s)
     unfolding looped seqForm stmtAt
-    seq-tree (Form.while v e a) q = rw q
-    seq-tree Form.nop q = rw q
-    seq-tree (Form.seq a b) q = rw q
-    seq-tree (Form.assign x e) q = rw q
-    seq-tree (Form.decl x a) q = rw q
-    seq-tree (Form.if e a b) q = rw q
-    seq-tree (Form.return e) q = rw q
-    seq-tree (Form.assert e) q = rw q
-    seq-tree (Form.expr e) q = rw q
-    seq-tree Form.stray q = rw q
+    seq-tree (StmtForm.while v e a) q = rw q
+    seq-tree StmtForm.nop q = rw q
+    seq-tree (StmtForm.seq a b) q = rw q
+    seq-tree (StmtForm.assign x e) q = rw q
+    seq-tree (StmtForm.decl x a) q = rw q
+    seq-tree (StmtForm.if e a b) q = rw q
+    seq-tree (StmtForm.return e) q = rw q
+    seq-tree (StmtForm.assert e) q = rw q
+    seq-tree (StmtForm.expr e) q = rw q
+    seq-tree StmtForm.stray q = rw q
 
   -- every tree grows from its level
   pub tree-grows : (r : Ref) → stmtAt t r ≡ growF (readsOf t) (stmtAt t) (seeAt t r)
@@ -156,58 +156,58 @@ module _ (t : List ℕ) where
 -- ---- whiles
 
 -- the node that a while names, and elsewhere the number given
-abbrev named : ℕ → Form → ℕ
-named i (Form.while w e a) = w
-named i Form.nop = i
-named i (Form.seq a b) = i
-named i (Form.assign x e) = i
-named i (Form.decl x a) = i
-named i (Form.if e a b) = i
-named i (Form.return e) = i
-named i (Form.assert e) = i
-named i (Form.expr e) = i
-named i Form.stray = i
+abbrev named : ℕ → StmtForm → ℕ
+named i (StmtForm.while w e a) = w
+named i StmtForm.nop = i
+named i (StmtForm.seq a b) = i
+named i (StmtForm.assign x e) = i
+named i (StmtForm.decl x a) = i
+named i (StmtForm.if e a b) = i
+named i (StmtForm.return e) = i
+named i (StmtForm.assert e) = i
+named i (StmtForm.expr e) = i
+named i StmtForm.stray = i
 
 -- a form is a while's, or there is no if and no seq of it
-pub by-while : {C : Type 0} (w : ℕ) (x : Form) → ((v e : ℕ) (a : Ref) → x ≡ Form.while v e a → C) → (ifForm w x ≡ Form.stray → seqForm w x ≡ Form.stray → C) → C
+pub by-while : {C : Type 0} (w : ℕ) (x : StmtForm) → ((v e : ℕ) (a : Ref) → x ≡ StmtForm.while v e a → C) → (ifForm w x ≡ StmtForm.stray → seqForm w x ≡ StmtForm.stray → C) → C
 unfolding ifForm seqForm
-by-while w (Form.while v e a) f g = f v e a refl
-by-while w Form.nop f g = g refl refl
-by-while w (Form.seq a b) f g = g refl refl
-by-while w (Form.assign x e) f g = g refl refl
-by-while w (Form.decl x a) f g = g refl refl
-by-while w (Form.if e a b) f g = g refl refl
-by-while w (Form.return e) f g = g refl refl
-by-while w (Form.assert e) f g = g refl refl
-by-while w (Form.expr e) f g = g refl refl
-by-while w Form.stray f g = g refl refl
+by-while w (StmtForm.while v e a) f g = f v e a refl
+by-while w StmtForm.nop f g = g refl refl
+by-while w (StmtForm.seq a b) f g = g refl refl
+by-while w (StmtForm.assign x e) f g = g refl refl
+by-while w (StmtForm.decl x a) f g = g refl refl
+by-while w (StmtForm.if e a b) f g = g refl refl
+by-while w (StmtForm.return e) f g = g refl refl
+by-while w (StmtForm.assert e) f g = g refl refl
+by-while w (StmtForm.expr e) f g = g refl refl
+by-while w StmtForm.stray f g = g refl refl
 
 -- an if's and a seq's form is no while's
-if-named : (i w : ℕ) (s : Form) → named i (ifForm w s) ≡ i
+if-named : (i w : ℕ) (s : StmtForm) → named i (ifForm w s) ≡ i
 unfolding ifForm
 if-named i w s = by-while w s (λ v e a q. rw q) (λ p q. rw p)
 
-seq-named : (i w : ℕ) (s : Form) → named i (seqForm w s) ≡ i
+seq-named : (i w : ℕ) (s : StmtForm) → named i (seqForm w s) ≡ i
 unfolding seqForm
 seq-named i w s = by-while w s (λ v e a q. rw q) (λ p q. rw q)
 
 module _ (t : List ℕ) (w e : ℕ) (a : Ref) where
   -- a while names its own node
-  while-node : (i : ℕ) → formAt t i ≡ Form.while w e a → i ≡ w
+  while-node : (i : ℕ) → formAt t i ≡ StmtForm.while w e a → i ≡ w
   while-node i q =
       sym (by-form t i (λ s. named i s ≡ i) (λ k. refl) (λ k p. refl) (λ k p. refl) (λ k p. refl) (λ k p. refl) (λ k p. refl) (λ k p. refl) (λ k p. refl) (λ k p. refl) (λ k h. refl))
       ∙ ap (named i) q
 
-  no-while : (s : Form) → named (suc w) s ≡ suc w → s ≡ Form.while w e a → ⊥
+  no-while : (s : StmtForm) → named (suc w) s ≡ suc w → s ≡ StmtForm.while w e a → ⊥
   no-while s h q = let z : suc w ≡ w = sym h ∙ ap (named (suc w)) q in omega arith
 
-  pub while-see : (r : Ref) → seeAt t r ≡ Form.while w e a
-      → (r ≡ node w) × (seeAt t (ifOf w) ≡ Form.if e (seqOf w) Ref.nop) × (seeAt t (seqOf w) ≡ Form.seq a (node w))
+  pub while-see : (r : Ref) → seeAt t r ≡ StmtForm.while w e a
+      → (r ≡ node w) × (seeAt t (ifOf w) ≡ StmtForm.if e (seqOf w) Ref.nop) × (seeAt t (seqOf w) ≡ StmtForm.seq a (node w))
   unfolding seeAt ifForm seqForm
   while-see (node i) q =
       let z : i ≡ w = while-node i q in
-      let q′ : formAt t w ≡ Form.while w e a = rw z at q in
+      let q′ : formAt t w ≡ StmtForm.while w e a = rw z at q in
       (ap node z, rw q′, rw q′)
-  while-see Ref.nop q = absurd (no-while Form.nop refl q)
+  while-see Ref.nop q = absurd (no-while StmtForm.nop refl q)
   while-see (ifOf v) q = absurd (no-while (ifForm v (formAt t v)) (if-named (suc w) v (formAt t v)) q)
   while-see (seqOf v) q = absurd (no-while (seqForm v (formAt t v)) (seq-named (suc w) v (formAt t v)) q)

@@ -7,7 +7,7 @@ pub mod Keep
 pub mod Progress
 pub mod Says
 pub mod Tests
-pub mod Words
+pub mod KeepWords
 pub mod Typed
 pub mod History
 pub mod Runs

@@ -9,9 +9,9 @@ use Rattle.records.proofs.Bools.{both-mono, either-mono}
 use Rattle.spec_language.specs.Flow.{leaves, returns}
 use Rattle.spec_language.proofs.Flows.{reads-mono, ok-nop, ok-mono, leaves-mono, Unrolled}
 use Rattle.spec_machine.specs.Values.{Ty, Value, typeV}
-use Rattle.spec_machine.specs.Program.{Ref, ifOf, seqOf, growF, Look, const, apply, Form, Program, typeN, varTypes}
-use Rattle.spec_machine.specs.Machine.{Frame, gather, and, wait, branch, check, Control, val, exec, Saved, Ambient, reach, reachL, entered}
-use Rattle.spec_machine.specs.Fit.{IsExpr, Known, Reads, ReadsNodes, Holds, isSome, held, TakesNone, Takes, Gives, Flows, FlowsFrom, comes, comesFrom, Callers, Running}
+use Rattle.spec_machine.specs.Program.{Ref, ifOf, seqOf, growF, ExprForm, const, apply, StmtForm, Program, typeN, varTypes}
+use Rattle.spec_machine.specs.Machine.{Frame, gather, and, wait, branch, check, Control, val, exec, Saved, RunEnv, reach, reachL, entered}
+use Rattle.spec_machine.specs.Fit.{IsExpr, HasFunction, Reads, ReadsNodes, AllHoldTyped, isSome, held, TakesNone, Takes, ControlOver, Flows, FlowsFrom, comes, comesFrom, Callers, Running}
 use Rattle.spec_machine.proofs.Accepted.{paramSet, Accepted}
 use Rattle.spec_machine.proofs.Holding.{holds-length, real-at, real-some, real-left, stored-is, enter-holds, entered-at}
 
@@ -47,40 +47,40 @@ flows-mono P f (Frame.discard ∷ K) d d′ h o = flows-mono P f K d d′ h o
 -- ---- an expression that is reached: a constant is its value
 
 module _ (P : Program) (f n : ℕ) (K : List Frame) where
-  reach-gives : IsExpr P f n → Takes P f (typeN P f n) K → Gives P f (reach P f n) K
+  reach-gives : IsExpr P f n → Takes P f (typeN P f n) K → ControlOver P f (reach P f n) K
   reach-gives i k = go (P .look f n) refl
     where
-      go : (l : Look) → P .look f n ≡ l → Gives P f (reachL n l) K
+      go : (l : ExprForm) → P .look f n ≡ l → ControlOver P f (reachL n l) K
       go (const v) e = rw e at k
-      go (Look.var x) e = (i, rw e, k)
+      go (ExprForm.var x) e = (i, rw e, k)
       go (apply h ns) e = (i, rw e, k)
-      go (Look.and l m) e = (i, rw e, k)
-      go Look.stray e = (i, rw e, k)
+      go (ExprForm.and l m) e = (i, rw e, k)
+      go ExprForm.stray e = (i, rw e, k)
 
   reach-flows : (d : Set) → Reads P f n d → Flows P f K d → FlowsFrom P f (reach P f n) K d
   reach-flows d r k = go (P .look f n)
     where
-      go : (l : Look) → FlowsFrom P f (reachL n l) K d
+      go : (l : ExprForm) → FlowsFrom P f (reachL n l) K d
       go (const v) = k
-      go (Look.var x) = (r, k)
+      go (ExprForm.var x) = (r, k)
       go (apply h ns) = (r, k)
-      go (Look.and l m) = (r, k)
-      go Look.stray = (r, k)
+      go (ExprForm.and l m) = (r, k)
+      go ExprForm.stray = (r, k)
 
   reach-comes : comes P f K ≡ true → comesFrom P f (reach P f n) K ≡ true
   reach-comes k = go (P .look f n)
     where
-      go : (l : Look) → comesFrom P f (reachL n l) K ≡ true
+      go : (l : ExprForm) → comesFrom P f (reachL n l) K ≡ true
       go (const v) = k
-      go (Look.var x) = k
+      go (ExprForm.var x) = k
       go (apply h ns) = k
-      go (Look.and l m) = k
-      go Look.stray = k
+      go (ExprForm.and l m) = k
+      go ExprForm.stray = k
 
 -- ---- the same activation with another control and other frames
 
-module _ {P : Program} {c : Control} {α : Ambient} {f : ℕ} {η : List Value} {K : List Frame} {A : List Saved} (o : Running P c α f η K A) where
-  pub moves : {c′ : Control} {K′ : List Frame} → Gives P f c′ K′ → FlowsFrom P f c′ K′ (held η) → comesFrom P f c′ K′ ≡ true → Running P c′ α f η K′ A
+module _ {P : Program} {c : Control} {α : RunEnv} {f : ℕ} {η : List Value} {K : List Frame} {A : List Saved} (o : Running P c α f η K A) where
+  pub moves : {c′ : Control} {K′ : List Frame} → ControlOver P f c′ K′ → FlowsFrom P f c′ K′ (held η) → comesFrom P f c′ K′ ≡ true → Running P c′ α f η K′ A
   moves g w r = record { callers = o .callers; known = o .known; holds = o .holds; frames = g; flows = w; returns = r }
 
   -- an expression is reached
@@ -92,17 +92,17 @@ module _ {P : Program} {c : Control} {α : Ambient} {f : ℕ} {η : List Value} 
 
 module _ (P : Program) (c : Accepted P) where
   -- the tree of a statement whose one level is known
-  pub seen : (f : ℕ) (r : Ref) {s : Form} → P .see f r ≡ s → P .stmt f r ≡ growF (P .reads f) (P .stmt f) s
+  pub seen : (f : ℕ) (r : Ref) {s : StmtForm} → P .see f r ≡ s → P .stmt f r ≡ growF (P .reads f) (P .stmt f) s
   seen f r e = c .stmt-is f r ∙ ap (growF (P .reads f) (P .stmt f)) e
 
   -- the if that a while equals
-  pub unrolled : (f w n : ℕ) (r a : Ref) → P .see f r ≡ Form.while w n a → P .stmt f (ifOf w) ≡ Unrolled (P .reads f n) (P .stmt f a)
+  pub unrolled : (f w n : ℕ) (r a : Ref) → P .see f r ≡ StmtForm.while w n a → P .stmt f (ifOf w) ≡ Unrolled (P .reads f n) (P .stmt f a)
   unrolled f w n r a e =
       let q = c .see-while f w n a r e in
       seen f (ifOf w) (q .1) ∙ rw (seen f (seqOf w) (q .2), seen f Ref.nop (c .see-nop f), ← q .0, seen f r e)
 
   -- nop over the frames that are left
-  pub passes-on : (α : Ambient) (f : ℕ) (η : List Value) (K : List Frame) (A : List Saved) → Callers P f A → Known P f → Holds η (varTypes (P .fun f))
+  pub passes-on : (α : RunEnv) (f : ℕ) (η : List Value) (K : List Frame) (A : List Saved) → Callers P f A → HasFunction P f → AllHoldTyped η (varTypes (P .fun f))
       → TakesNone P f K → Flows P f K (held η) → comes P f K ≡ true → Running P (exec Ref.nop) α f η K A
   unfolding leaves returns
   passes-on α f η K A k y h t w r =
@@ -110,18 +110,18 @@ module _ (P : Program) (c : Accepted P) where
       record { callers = k; known = y; holds = h; frames = ((refl, rw (c .see-nop f)), t); flows = rw q (ok-nop (held η), w); returns = rw q r }
 
   -- the variables that hold values after a store
-  pub store-is : {α : Ambient} {f x : ℕ} {v : Value} {η : List Value} {K : List Frame} {A : List Saved} → Running P (val v) α f η (Frame.store x ∷ K) A → with (held η) x ≡ held (set η x v)
+  pub store-is : {α : RunEnv} {f x : ℕ} {v : Value} {η : List Value} {K : List Frame} {A : List Saved} → Running P (val v) α f η (Frame.store x ∷ K) A → with (held η) x ≡ held (set η x v)
   store-is {f = f} {x = x} {v = v} {η = η} o =
       let t : List Ty = varTypes (P .fun f) in
       let some : isSome v ≡ true = real-some v (λ z. real-at t x (c .real f (o .known)) (o .frames .1) (sym (o .frames .0) ∙ z)) in
       stored-is η x v some (rw (holds-length η t (o .holds)) (o .frames .1))
 
   -- and at entry
-  pub entered-is : (g : ℕ) (vs : List Value) → P .fun g .params ≡ map typeV vs → Known P g → paramSet (P .fun g) ≡ held (entered (P .fun g) vs)
+  pub entered-is : (g : ℕ) (vs : List Value) → P .fun g .params ≡ map typeV vs → HasFunction P g → paramSet (P .fun g) ≡ held (entered (P .fun g) vs)
   entered-is g vs e y = fun-ext λ x. rw e (entered-at vs (P .fun g .locals) (rw e at (real-left (P .fun g .params) (P .fun g .locals) (c .real g y))) x)
 
   -- a function entered over its callers
-  pub enters : (α : Ambient) (g : ℕ) (vs : List Value) (A : List Saved) → P .fun g .params ≡ map typeV vs → Callers P g A → Known P g
+  pub enters : (α : RunEnv) (g : ℕ) (vs : List Value) (A : List Saved) → P .fun g .params ≡ map typeV vs → Callers P g A → HasFunction P g
       → Running P (exec (P .fun g .body)) α g (entered (P .fun g) vs) [] A
   enters α g vs A e k y =
       record {

@@ -24,7 +24,7 @@ use Rattle.spec_language.proofs.Typings.{nth, fields-at, int-type, bool-type, v
 use Rattle.spec_language.proofs.Positions.{sizes, child-below, child-sort}
 use Rattle.spec_language.proofs.Subtrees.{back, child-at, sort-at}
 use Rattle.spec_machine.specs.Values.{Ty}
-use Rattle.spec_machine.specs.Program.{Ref, node, typeN, typeL, varTypes, varType}
+use Rattle.spec_machine.specs.Program.{Ref, node, typeN, typeL, varTypes, typeOfVar}
 use Rattle.spec_machine.specs.Fit.{isExpr, isStmt, isNop, IsExpr, IsStmt, Var}
 use Rattle.spec_machine.specs.File.{lookAt, refAt, formAt, seeAt, typesFrom, funOf, programOf}
 use Rattle.spec_machine.proofs.Levels.{by-look, by-form}
@@ -96,7 +96,7 @@ module _ (s : List ℕ) (h : Accepted s) (f : ℕ) (l : f < functions s) where
       let p = function s h f l .least in
       types-append (types.varType s f t n) (paramsOf s f) (varsOf s f - paramsOf s f) (varsOf s f) 0 (paramsOf s f) (omega arith) (omega arith)
 
-  pub variable-type-is : (x : ℕ) → x < varsOf s f → varType (funOf s f) x ≡ types.varType s f t n x
+  pub variable-type-is : (x : ℕ) → x < varsOf s f → typeOfVar (funOf s f) x ≡ types.varType s f t n x
   variable-type-is x p =
       let e : 0 + x ≡ x = omega arith in
       ap (λ (ts : List Ty). getD ts x 0) variables ∙ types-at (types.varType s f t n) (varsOf s f) 0 x p ∙ ap (types.varType s f t n) e

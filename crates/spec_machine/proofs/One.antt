@@ -6,7 +6,7 @@ use mathlib.Core.Option.{Option, none, some}
 use Prim.Native.Nat.{ℕ}
 use lib.ListN.{length}
 use Rattle.spec_machine.specs.Values.{Value, nothing, int, truth, result}
-use Rattle.spec_machine.specs.Program.{op, fn, Look, const, apply, Form, Program}
+use Rattle.spec_machine.specs.Program.{op, fn, ExprForm, const, apply, StmtForm, Program}
 use Rattle.spec_machine.specs.Machine.{Frame, gather, and, wait, branch, check, val, eval, exec, State, exception, main, returned, running, Rule, Event, quiet, reads, has, lacks, enters, leaves, ends, Step, first, enter, op-value, op-arith, and-first, and-false, and-true, call-none, call-main, assert-true, assert-false, if-true, if-false, leave-main}
 use Rattle.spec_machine.specs.Next.{goes, next}
 
@@ -52,27 +52,27 @@ giving P v (check ∷ K) = checking v
 giving P v (Frame.discard ∷ K) = quiet
 
 -- of an expression
-abbrev opening : Program → Look → Event
+abbrev opening : Program → ExprForm → Event
 opening P (const v) = quiet
-opening P (Look.var x) = reads x
+opening P (ExprForm.var x) = reads x
 opening P (apply (op o) ns) = quiet
 opening P (apply (fn g) []) = entering P g
 opening P (apply (fn g) (n ∷ ns)) = quiet
-opening P (Look.and n l) = quiet
-opening P Look.stray = quiet
+opening P (ExprForm.and n l) = quiet
+opening P ExprForm.stray = quiet
 
 -- of a statement
-abbrev executing : Form → Event
-executing Form.nop = quiet
-executing (Form.seq a b) = quiet
-executing (Form.assign x n) = quiet
-executing (Form.decl x a) = lacks x
-executing (Form.if n a b) = quiet
-executing (Form.while w n a) = quiet
-executing (Form.return n) = quiet
-executing (Form.assert n) = quiet
-executing (Form.expr n) = quiet
-executing Form.stray = quiet
+abbrev executing : StmtForm → Event
+executing StmtForm.nop = quiet
+executing (StmtForm.seq a b) = quiet
+executing (StmtForm.assign x n) = quiet
+executing (StmtForm.decl x a) = lacks x
+executing (StmtForm.if n a b) = quiet
+executing (StmtForm.while w n a) = quiet
+executing (StmtForm.return n) = quiet
+executing (StmtForm.assert n) = quiet
+executing (StmtForm.expr n) = quiet
+executing StmtForm.stray = quiet
 
 abbrev eventOf : Program → State → Event
 eventOf P (State.value c) = quiet

@@ -9,13 +9,13 @@ use lib.Dec.{ltb}
 use lib.IntN.{ℤ}
 use Rattle.varset.specs.Lowest.{pick}
 use Rattle.arith.specs.Int.{wrap}
-use Rattle.arith.proofs.Words.{wrap-below}
+use Rattle.arith.proofs.WordInts.{wrap-below}
 use Rattle.arith.specs.Operators.{addOf, subOf, mulOf, quotOf, remOf, shlOf, shrOf, andOf, orOf, xorOf, noQuotient, divided, shifted, results, applied}
 use Rattle.arith.specs.declared.Applied.{Applied}
 use Rattle.arith.specs.declared.Applied.the-variants.{Int, Truth, Arith}
-use Rattle.spec_machine.specs.Values.{Value, int, truth, tInt, tBool, typeV, given, result}
-use Rattle.spec_machine.specs.Fit.{Word}
-use Rattle.records.proofs.Tables.{each-at}
+use Rattle.spec_machine.specs.Values.{Value, int, truth, tInt, tBool, typeV, resultValue, result}
+use Rattle.spec_machine.specs.Fit.{IsWord}
+use Rattle.records.proofs.EntryTables.{each-at}
 
 divided-is : (Q : Applied → Type 0) (a b c : ℕ) → Q Arith → Q (Int c) → Q (divided a b c)
 unfolding divided
@@ -56,7 +56,7 @@ applied-type e o a b =
     (λ o. tt)
     o
 
-given-word : (r : Applied) (v : Value) → given r ≡ some v → ResultWord r → Word v
+given-word : (r : Applied) (v : Value) → resultValue r ≡ some v → ResultWord r → IsWord v
 given-word (Int c) v e h =
     let q : int c ≡ v = cc in
     rw (sym q) h
@@ -67,7 +67,7 @@ given-word Arith v e h =
     let z : _≡_ {A = ℕ} 0 1 = cc in
     absurd (omega arith)
 
-given-type : (o : ℕ) (r : Applied) (v : Value) → given r ≡ some v → ResultType o r → typeV v ≡ pick (ltb o 10) tInt tBool
+given-type : (o : ℕ) (r : Applied) (v : Value) → resultValue r ≡ some v → ResultType o r → typeV v ≡ pick (ltb o 10) tInt tBool
 given-type o (Int c) v e h =
     let q : int c ≡ v = cc in
     rw (sym q) h
@@ -79,7 +79,7 @@ given-type o Arith v e h =
     absurd (omega arith)
 
 -- of two words an operator gives a word, or a truth
-pub result-word : (e o a b : ℕ) (v : Value) → a < 2 ^ 32 → b < 2 ^ 32 → result e o a b ≡ some v → Word v
+pub result-word : (e o a b : ℕ) (v : Value) → a < 2 ^ 32 → b < 2 ^ 32 → result e o a b ≡ some v → IsWord v
 unfolding result
 result-word e o a b v h k q = given-word (applied e o a b) v q (applied-word e o a b h k)
 

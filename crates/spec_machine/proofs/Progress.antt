@@ -8,8 +8,8 @@ use Prim.Native.Nat.{ℕ}
 use native.Mathlib.Omega.{arith}
 use Rattle.spec_language.specs.Flow.{returns}
 use Rattle.spec_machine.specs.Values.{Ty, tInt, tBool, Value, nothing, int, truth, typeV, result}
-use Rattle.spec_machine.specs.Program.{op, fn, Ref, Look, const, apply, Form, Program}
-use Rattle.spec_machine.specs.Machine.{Frame, gather, and, wait, branch, check, val, eval, exec, Saved, saved, Ambient, State, exception, main, returned, running, Rule, Event, Step, first, enter, op-value, op-arith, and-first, and-false, and-true, call-none, call-main, assert-true, assert-false, if-true, if-false, leave-main}
+use Rattle.spec_machine.specs.Program.{op, fn, Ref, ExprForm, const, apply, StmtForm, Program}
+use Rattle.spec_machine.specs.Machine.{Frame, gather, and, wait, branch, check, val, eval, exec, Saved, saved, RunEnv, State, exception, main, returned, running, Rule, Event, Step, first, enter, op-value, op-arith, and-first, and-false, and-true, call-none, call-main, assert-true, assert-false, if-true, if-false, leave-main}
 use Rattle.spec_machine.specs.Next.{goes, next}
 use Rattle.spec_machine.specs.Fit.{Running, Proper, Fit}
 use Rattle.spec_machine.specs.Run.{Going}
@@ -51,7 +51,7 @@ on-ints Q h (u ∷ []) v e =
 
 -- ---- progress, by the control
 
-module _ {P : Program} (c : Accepted P) (α : Ambient) (f : ℕ) (η : List Value) where
+module _ {P : Program} (c : Accepted P) (α : RunEnv) (f : ℕ) (η : List Value) where
   settles : (K : List Frame) (A : List Saved) (o a b : ℕ) → Applies P (running (val (int b)) α f η (gather (op o) (int a ∷ []) [] ∷ K) A)
   settles K A o a b = go (result (P .edition) o a b) refl
     where
@@ -78,9 +78,9 @@ module _ {P : Program} (c : Accepted P) (α : Ambient) (f : ℕ) (η : List Valu
   opens-on : (n : ℕ) (K : List Frame) (A : List Saved) → Running P (eval n) α f η K A → Applies P (running (eval n) α f η K A)
   opens-on n K A o = go (P .look f n) refl
     where
-      go : (l : Look) → P .look f n ≡ l → Applies P (running (eval n) α f η K A)
+      go : (l : ExprForm) → P .look f n ≡ l → Applies P (running (eval n) α f η K A)
       go (const v) e = absurd (true≢false (rw e at (o .frames .1)))
-      go (Look.var x) e = by-step (Step.var e)
+      go (ExprForm.var x) e = by-step (Step.var e)
       go (apply h (m ∷ ms)) e = by-step (first e)
       go (apply (op p) []) e =
           let g : GoodE P f (apply (op p) []) = rw e at (c .exprs f n (o .frames .0)) in
@@ -88,10 +88,10 @@ module _ {P : Program} (c : Accepted P) (α : Ambient) (f : ℕ) (η : List Valu
           let z : _≡_ {A = ℕ} 0 1 = cc in
           absurd (omega arith)
       go (apply (fn g) []) e = by-step (call-none e)
-      go (Look.and l m) e = by-step (and-first e)
-      go Look.stray e = absurd (rw e at (c .exprs f n (o .frames .0)))
+      go (ExprForm.and l m) e = by-step (and-first e)
+      go ExprForm.stray e = absurd (rw e at (c .exprs f n (o .frames .0)))
 
-  passes-by : (r : Ref) → P .see f r ≡ Form.nop → (K : List Frame) (A : List Saved) → Running P (exec r) α f η K A → Applies P (running (exec r) α f η K A)
+  passes-by : (r : Ref) → P .see f r ≡ StmtForm.nop → (K : List Frame) (A : List Saved) → Running P (exec r) α f η K A → Applies P (running (exec r) α f η K A)
   unfolding returns
   passes-by r e [] A o = absurd (false≢true (rw (seen P c f r e) at (o .returns)))
   passes-by r e (gather h vs ns ∷ K) A o = absurd (o .frames .1)
@@ -106,17 +106,17 @@ module _ {P : Program} (c : Accepted P) (α : Ambient) (f : ℕ) (η : List Valu
   runs-on : (r : Ref) (K : List Frame) (A : List Saved) → Running P (exec r) α f η K A → Applies P (running (exec r) α f η K A)
   runs-on r K A o = go (P .see f r) refl
     where
-      go : (s : Form) → P .see f r ≡ s → Applies P (running (exec r) α f η K A)
-      go Form.nop e = passes-by r e K A o
-      go (Form.seq a b) e = by-step (Step.seq e)
-      go (Form.assign x n) e = by-step (Step.assign e)
-      go (Form.decl x a) e = by-step (Step.decl e)
-      go (Form.if n a b) e = by-step (Step.if e)
-      go (Form.while w n a) e = by-step (Step.while e)
-      go (Form.return n) e = by-step (Step.return e)
-      go (Form.assert n) e = by-step (Step.assert e)
-      go (Form.expr n) e = by-step (Step.expr e)
-      go Form.stray e = absurd (false≢true (rw e at (o .frames .0 .1)))
+      go : (s : StmtForm) → P .see f r ≡ s → Applies P (running (exec r) α f η K A)
+      go StmtForm.nop e = passes-by r e K A o
+      go (StmtForm.seq a b) e = by-step (Step.seq e)
+      go (StmtForm.assign x n) e = by-step (Step.assign e)
+      go (StmtForm.decl x a) e = by-step (Step.decl e)
+      go (StmtForm.if n a b) e = by-step (Step.if e)
+      go (StmtForm.while w n a) e = by-step (Step.while e)
+      go (StmtForm.return n) e = by-step (Step.return e)
+      go (StmtForm.assert n) e = by-step (Step.assert e)
+      go (StmtForm.expr n) e = by-step (Step.expr e)
+      go StmtForm.stray e = absurd (false≢true (rw e at (o .frames .0 .1)))
 
 -- a state where the function goes on is not final
 next-going : (P : Program) (s t : State) (r : Rule) → next P s ≡ goes r t → Going s
@@ -130,7 +130,7 @@ next-going P (running k α f η K A) t r e = tt
 
 module _ {P : Program} where
   -- the start is fit
-  pub start-fit : {α : Ambient} → Fit P (main α)
+  pub start-fit : {α : RunEnv} → Fit P (main α)
   start-fit = record { words = tt; within = tt; proper = tt }
 
   -- a state that is not final has a rule

@@ -3,15 +3,16 @@ use mathlib.Core.Path.{_≡_, refl, ap, _∙_}
 use mathlib.Core.Bool.{true, false}
 use mathlib.Core.List.{List}
 use Prim.Native.Nat.{ℕ, zero, suc}
+use Rattle.varset.specs.Lowest.{pick}
 use Rattle.varset.specs.Sets.{Set}
 use Rattle.records.proofs.Bools.{by, clash}
 use Rattle.spec_machine.specs.Program.{Program}
 use Rattle.spec_machine.specs.Machine.{Exception, State, exception, main, returned, running, Rule, Event, Step}
 use Rattle.spec_machine.specs.Next.{Move, next}
 use Rattle.spec_machine.specs.Fit.{Fit}
-use Rattle.spec_machine.specs.Run.{carry, allHeld, Outcome, raised, Spent, Full, Going, RunsTo, ended, failed, spent, full, within, Ran, counted, pickR, stopped, onward, runOf}
+use Rattle.spec_machine.specs.Run.{carry, allHeld, Outcome, raised, Spent, Full, Going, RunsTo, ended, failed, spent, full, withinLimits, Ran, counted, stopped, onward, runOf}
 use Rattle.spec_machine.proofs.Accepted.{Accepted}
-use Rattle.spec_machine.proofs.Words.{ConstWords, words-kept}
+use Rattle.spec_machine.proofs.KeepWords.{ConstWords, words-kept}
 use Rattle.spec_machine.proofs.Tests.{limits-say}
 use Rattle.spec_machine.proofs.One.{sound}
 use Rattle.spec_machine.proofs.Keep.{keep}
@@ -38,7 +39,7 @@ abbrev stands : State → Ran
 stands s = record { outcome = Full; steps = 0; state = s }
 
 -- the run's next step
-run-step : (P : Program) (a : ℕ) (s t : State) (r : Rule) → next P s ≡ Move.goes r t → runOf P (suc a) s ≡ pickR (within t) (counted (runOf P a t)) (stands s)
+run-step : (P : Program) (a : ℕ) (s t : State) (r : Rule) → next P s ≡ Move.goes r t → runOf P (suc a) s ≡ pick (withinLimits t) (counted (runOf P a t)) (stands s)
 unfolding runOf
 run-step P a s t r e = ap (λ (m : Move). onward s m (λ u. runOf P a u)) e
 
@@ -46,16 +47,16 @@ module _ {P : Program} (c : Accepted P) (constants : ConstWords P) where
   -- from one step to the run after it
   on-step : {r : Rule} {v : Event} {s t : State} (a : ℕ) (h : List Set) → Step P r v s t → Fit P s → h ≡ allHeld s
       → ((k : List Set) → Fit P t → k ≡ allHeld t → Good P t k a (runOf P a t)) → Good P s h (suc a) (runOf P (suc a) s)
-  on-step {r} {v} {s} {t} a h p f e rest = rw (run-step P a s t r (sound p)) (by (within t) on over)
+  on-step {r} {v} {s} {t} a h p f e rest = rw (run-step P a s t r (sound p)) (by (withinLimits t) on over)
     where
-      on : within t ≡ true → Good P s h (suc a) (pickR (within t) (counted (runOf P a t)) (stands s))
+      on : withinLimits t ≡ true → Good P s h (suc a) (pick (withinLimits t) (counted (runOf P a t)) (stands s))
       on w =
           let i = limits-say t .so w in
           let g = rest (carry v h) (record { words = words-kept P constants p (f .words); within = i; proper = keep c p (f .proper) }) (rw e (carried c p (f .proper))) in
           rw w (record { history = g .history; runs = RunsTo.goes {h = h} p i (rw e (reads-held c p (f .proper))) (g .runs); fit = g .fit; same = g .same })
 
-      over : within t ≡ false → Good P s h (suc a) (pickR (within t) (counted (runOf P a t)) (stands s))
-      over w = rw w (record { history = h; runs = full p (λ i. clash (within t) (limits-say t .if i) w); fit = f; same = e })
+      over : withinLimits t ≡ false → Good P s h (suc a) (pick (withinLimits t) (counted (runOf P a t)) (stands s))
+      over w = rw w (record { history = h; runs = full p (λ i. clash (withinLimits t) (limits-say t .if i) w); fit = f; same = e })
 
   -- the run function's report is a run of the relation
   pub ran : (a : ℕ) (s : State) (h : List Set) → Fit P s → h ≡ allHeld s → Good P s h a (runOf P a s)
@@ -92,5 +93,5 @@ pub runs-are : {P : Program} {s u : State} {h k : List Set} {a n : ℕ} {o : Out
 runs-are {P} (ended {c} {a}) = end-value P c a
 runs-are {P} (failed {x} {a}) = end-raised P x a
 runs-are {P} {s} (spent g) = end-spent P s g
-runs-are {P} (full {s} {t} {r} {v} {a} p n) = run-step P a s t r (sound p) ∙ by (within t) (λ w. absurd (n (limits-say t .so w))) (λ w. rw w)
+runs-are {P} (full {s} {t} {r} {v} {a} p n) = run-step P a s t r (sound p) ∙ by (withinLimits t) (λ w. absurd (n (limits-say t .so w))) (λ w. rw w)
 runs-are {P} (RunsTo.goes {s} {t} {u} {r} {v} {a} p w q rest) = run-step P a s t r (sound p) ∙ rw (limits-say t .if w, runs-are rest)

@@ -4,14 +4,14 @@ use mathlib.Core.List.{List}
 use Prim.Native.Nat.{ℕ, _<_}
 use lib.ListN.{getD}
 use Rattle.spec_language.specs.Check.{accepted, checkOf}
-use Rattle.spec_machine.specs.Machine.{State, main, calm, Rule, Event, Step}
-use Rattle.spec_machine.specs.Fit.{Within, Fit}
+use Rattle.spec_machine.specs.Machine.{State, main, emptyEnv, Rule, Event, Step}
+use Rattle.spec_machine.specs.Fit.{WithinLimits, Fit}
 use Rattle.spec_machine.specs.Run.{carry, ReadsHeld, allHeld, Going, runOf}
 use Rattle.spec_machine.specs.File.{programOf}
 use Rattle.spec_machine.specs.Applies.{One}
 use Rattle.spec_machine.specs.Typed.{Typed}
 use Rattle.spec_machine.proofs.Files.{accepted-program}
-use Rattle.spec_machine.proofs.Words.{file-words, words-kept}
+use Rattle.spec_machine.proofs.KeepWords.{file-words, words-kept}
 use Rattle.spec_machine.proofs.Keep.{keep}
 use Rattle.spec_machine.proofs.Progress.{exactly-one, final-none, start-fit}
 use Rattle.spec_machine.proofs.History.{carried, reads-held}
@@ -21,7 +21,7 @@ use Rattle.spec_machine.proofs.Runs.{Good, ran}
 -- a file is a list of bytes
 module _ (s : List ℕ) (bytes : (i : ℕ) → getD s i 0 < 256) (passed : checkOf s ≡ accepted) where
   -- the start is fit
-  pub starts-fit : Fit (programOf s) (main calm)
+  pub starts-fit : Fit (programOf s) (main emptyEnv)
   starts-fit = start-fit
 
   -- "a final outcome or exactly one rule applies", within the limits or past them
@@ -33,7 +33,7 @@ module _ (s : List ℕ) (bytes : (i : ℕ) → getD s i 0 < 256) (passed : check
   final-stops n k = final-none n k
 
   -- the state that a rule gives is fit when it keeps the limits
-  pub stays-fit : {r : Rule} {v : Event} {σ τ : State} → Fit (programOf s) σ → Step (programOf s) r v σ τ → Within τ → Fit (programOf s) τ
+  pub stays-fit : {r : Rule} {v : Event} {σ τ : State} → Fit (programOf s) σ → Step (programOf s) r v σ τ → WithinLimits τ → Fit (programOf s) τ
   stays-fit h k w =
       record { words = words-kept (programOf s) (file-words s bytes) k (h .words); within = w; proper = keep (accepted-program s passed) k (h .proper) }
 

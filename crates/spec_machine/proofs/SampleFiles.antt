@@ -17,7 +17,7 @@ use Rattle.spec_language.specs.Types.{paramType, varType, operatorType, typesOf
 use Rattle.spec_language.specs.Sorts.{differ, isExpression, wantsExpression, wrongSort}
 use Rattle.spec_language.specs.Records.{within, lengthOk, headerOk, recordsOk, functionOk, sumOk, mainOk}
 use Rattle.spec_language.specs.Nodes.{fields, fieldsOk, nodeOk, total, sizeOk, wrongChild, some, misplaced, undeclared, firstUndeclared, outside, mistyped, answers}
-use Rattle.spec_language.specs.Check.{accepted, originOf, inPart, partQuestions, questions, refuse, put, checkOf}
+use Rattle.spec_language.specs.Check.{accepted, originOf, inPart, partQuestions, questions, refuse, firstRefusal, checkOf}
 
 -- decl#27(0, int, decl#26(1, bool, seq#25(assign#1(0, 1#0), seq#24(assign#3(1, true#2), seq#23(while#13(x1#4, seq#12(assign#6(1, false#5), if#11(x1#7, return#9(3#8), nop#10))),
 -- seq#22(expr#17(f1#16(x0#14, x1#15)), return#21(x0#18 +#20 2#19)))))))
@@ -57,5 +57,5 @@ stale = header 1 12 ++ function 1 0 1 0 12 ++ node 1 0 1 1 ++ node 2 0 0 1 ++ no
 
 -- the sample file is accepted
 sample-accepted : checkOf sample ≡ accepted
-unfolding lowest has none with without both either less below u16At u32At markAt functions nodes resultOf paramsOf varsOf maskOf countOf kindAt aAt bAt sizeAt sumOf startOf partOf firstOf shift orElse firstIn unless arities arityOf arityAt walk children differ isExpression wantsExpression wrongSort prior last shapes shapeAt readsFrom readsOf grow statementIn statementAt declares leaves missing lacks returns declaresAt declCount declOf under usesVariable paramType varType operatorType typesOf typeAt condition wantsOf wantAt suits agree within lengthOk headerOk recordsOk functionOk sumOk mainOk fields fieldsOk nodeOk total sizeOk wrongChild some misplaced undeclared firstUndeclared outside mistyped answers originOf inPart partQuestions questions refuse put checkOf
+unfolding lowest has none with without both either less below u16At u32At markAt functions nodes resultOf paramsOf varsOf maskOf countOf kindAt aAt bAt sizeAt sumOf startOf partOf firstOf shift orElse firstIn unless arities arityOf arityAt walk children differ isExpression wantsExpression wrongSort prior last shapes shapeAt readsFrom readsOf grow statementIn statementAt declares leaves missing lacks returns declaresAt declCount declOf under usesVariable paramType varType operatorType typesOf typeAt condition wantsOf wantAt suits agree within lengthOk headerOk recordsOk functionOk sumOk mainOk fields fieldsOk nodeOk total sizeOk wrongChild some misplaced undeclared firstUndeclared outside mistyped answers originOf inPart partQuestions questions refuse firstRefusal checkOf
 sample-accepted = refl

@@ -18,9 +18,9 @@ use Rattle.spec_language.specs.Scopes.{declaresAt, declCount, declOf, under, us
 use Rattle.spec_language.specs.Types.{paramType, varType, operatorType, typesOf, typeAt, condition, wantsOf, wantAt, suits, agree}
 use Rattle.arith.specs.Int as ints
 use Rattle.arith.specs.Operators as operators
-use Rattle.spec_machine.specs.File.{backwards, kids, andOf, looks, lookAt, refAt, formOf, formAt, ifForm, seqForm, seeAt, unrolled, looped, stmtAt, typesFrom, funOf, programOf}
+use Rattle.spec_machine.specs.File.{backwards, kids, andForm, looks, lookAt, refAt, formOf, formAt, ifForm, seqForm, seeAt, unrolled, looped, stmtAt, typesFrom, funOf, programOf}
 use Rattle.spec_machine.specs.Values.{nothing, truth, result}
-use Rattle.spec_machine.specs.Machine.{arith, main, calm}
+use Rattle.spec_machine.specs.Machine.{arith, main, emptyEnv}
 use Rattle.spec_machine.specs.Run.{Outcome, raised, Ran, runOf, lookUp}
 use Rattle.spec_machine.proofs.SampleFiles.{sample}
 
@@ -55,7 +55,7 @@ abbrev expected : Row → Report
 expected (row s a o k) = report o k
 
 abbrev ran : Row → Report
-ran (row s a o k) = reported (runOf (programOf s) a (main calm))
+ran (row s a o k) = reported (runOf (programOf s) a (main emptyEnv))
 
 -- each allowance is used up: the last step that it allows reaches the end
 abbrev rows : List Row
@@ -66,11 +66,11 @@ rows =
 
 -- all runs
 runs : map ran rows ≡ map expected rows
-unfolding lowest has none with without both either less below u16At u32At markAt functions nodes resultOf paramsOf varsOf maskOf countOf kindAt aAt bAt sizeAt sumOf startOf partOf firstOf shift orElse firstIn unless arities arityOf arityAt walk children prior last shapes shapeAt readsFrom readsOf grow statementIn statementAt declares leaves missing lacks returns declaresAt declCount declOf under usesVariable paramType varType operatorType typesOf typeAt condition wantsOf wantAt suits agree ints.int ints.wrap operators.addOf operators.subOf operators.mulOf operators.quotOf operators.remOf operators.shlOf operators.shrOf operators.andOf operators.orOf operators.xorOf operators.ltOf operators.leOf operators.gtOf operators.geOf operators.eqOf operators.neOf operators.noQuotient operators.divided operators.shifted operators.results operators.applied backwards kids andOf looks lookAt refAt formOf formAt ifForm seqForm seeAt unrolled looped stmtAt typesFrom funOf programOf result runOf
+unfolding lowest has none with without both either less below u16At u32At markAt functions nodes resultOf paramsOf varsOf maskOf countOf kindAt aAt bAt sizeAt sumOf startOf partOf firstOf shift orElse firstIn unless arities arityOf arityAt walk children prior last shapes shapeAt readsFrom readsOf grow statementIn statementAt declares leaves missing lacks returns declaresAt declCount declOf under usesVariable paramType varType operatorType typesOf typeAt condition wantsOf wantAt suits agree ints.int ints.wrap operators.addOf operators.subOf operators.mulOf operators.quotOf operators.remOf operators.shlOf operators.shrOf operators.andOf operators.orOf operators.xorOf operators.ltOf operators.leOf operators.gtOf operators.geOf operators.eqOf operators.neOf operators.noQuotient operators.divided operators.shifted operators.results operators.applied backwards kids andForm looks lookAt refAt formOf formAt ifForm seqForm seeAt unrolled looped stmtAt typesFrom funOf programOf result runOf
 runs = refl
 
 -- a variable keeps its value after its decl is over, until the decl runs again
-declared-again : (lookUp (runOf (programOf again) 42 (main calm) .state) 1 ≡ some (truth true))
-    × (lookUp (runOf (programOf again) 43 (main calm) .state) 1 ≡ some nothing)
-unfolding lowest has none with without both either less below u16At u32At markAt functions nodes resultOf paramsOf varsOf maskOf countOf kindAt aAt bAt sizeAt sumOf startOf partOf firstOf shift orElse firstIn unless arities arityOf arityAt walk children prior last shapes shapeAt readsFrom readsOf grow statementIn statementAt declares leaves missing lacks returns declaresAt declCount declOf under usesVariable paramType varType operatorType typesOf typeAt condition wantsOf wantAt suits agree ints.int ints.wrap operators.addOf operators.subOf operators.mulOf operators.quotOf operators.remOf operators.shlOf operators.shrOf operators.andOf operators.orOf operators.xorOf operators.ltOf operators.leOf operators.gtOf operators.geOf operators.eqOf operators.neOf operators.noQuotient operators.divided operators.shifted operators.results operators.applied backwards kids andOf looks lookAt refAt formOf formAt ifForm seqForm seeAt unrolled looped stmtAt typesFrom funOf programOf result runOf
+declared-again : (lookUp (runOf (programOf again) 42 (main emptyEnv) .state) 1 ≡ some (truth true))
+    × (lookUp (runOf (programOf again) 43 (main emptyEnv) .state) 1 ≡ some nothing)
+unfolding lowest has none with without both either less below u16At u32At markAt functions nodes resultOf paramsOf varsOf maskOf countOf kindAt aAt bAt sizeAt sumOf startOf partOf firstOf shift orElse firstIn unless arities arityOf arityAt walk children prior last shapes shapeAt readsFrom readsOf grow statementIn statementAt declares leaves missing lacks returns declaresAt declCount declOf under usesVariable paramType varType operatorType typesOf typeAt condition wantsOf wantAt suits agree ints.int ints.wrap operators.addOf operators.subOf operators.mulOf operators.quotOf operators.remOf operators.shlOf operators.shrOf operators.andOf operators.orOf operators.xorOf operators.ltOf operators.leOf operators.gtOf operators.geOf operators.eqOf operators.neOf operators.noQuotient operators.divided operators.shifted operators.results operators.applied backwards kids andForm looks lookAt refAt formOf formAt ifForm seqForm seeAt unrolled looped stmtAt typesFrom funOf programOf result runOf
 declared-again = (refl, refl)

@@ -16,7 +16,7 @@ use Rattle.spec_language.specs.Types.{paramType, varType}
 use Rattle.spec_machine.specs.File.{looks, lookAt, formOf, formAt, ifForm, seqForm, seeAt, unrolled, looped, stmtAt, typesFrom, funOf, programOf}
 use Rattle.spec_machine.specs.Values.{Value, nothing, int, truth}
 use Rattle.spec_machine.specs.Program.{op, fn, Ref, ifOf, seqOf}
-use Rattle.spec_machine.specs.Machine.{arith, abort, Frame, gather, and, wait, branch, check, Control, val, eval, exec, saved, calm, State, exception, main, returned, running}
+use Rattle.spec_machine.specs.Machine.{arith, abort, Frame, gather, and, wait, branch, check, Control, val, eval, exec, saved, emptyEnv, State, exception, main, returned, running}
 use Rattle.spec_machine.specs.Test.{fit}
 use Rattle.spec_machine.proofs.SampleFiles.{sample, branches, stale}
 
@@ -41,10 +41,10 @@ unfit t = row sample t false
 
 -- control, variables and frames of main alone, and of a function that main called
 abbrev main-at : Control → List Value → List Frame → State
-main-at c η K = running c calm 0 η K []
+main-at c η K = running c emptyEnv 0 η K []
 
 abbrev called : ℕ → Control → List Value → List Frame → List Frame → State
-called g c η K L = running c calm g η K (saved 0 (nothing ∷ nothing ∷ []) L ∷ [])
+called g c η K L = running c emptyEnv g η K (saved 0 (nothing ∷ nothing ∷ []) L ∷ [])
 
 abbrev runs : ℕ → Control
 runs n = exec (Ref.node n)
@@ -80,13 +80,13 @@ ready = int 1 ∷ truth true ∷ []
 
 -- main, called by itself `callers` times, with `nops` nops before a return
 abbrev nested : ℕ → ℕ → State
-nested callers nops = running (exec Ref.nop) calm 0 empty (replicate nops (wait Ref.nop) ++ (after 9 ∷ [])) (replicate callers (saved 0 empty leaving))
+nested callers nops = running (exec Ref.nop) emptyEnv 0 empty (replicate nops (wait Ref.nop) ++ (after 9 ∷ [])) (replicate callers (saved 0 empty leaving))
 
 -- final states, the start and the end are fit; a word is below 2 ^ 32
 abbrev ends : List Row
 ends =
     fits (State.value 0) ∷ fits (State.value 4294967295) ∷ unfit (State.value 4294967296) ∷ fits (exception arith) ∷ fits (exception abort) ∷
-    fits (main calm) ∷ fits (returned calm 4294967295) ∷ unfit (returned calm 4294967296) ∷
+    fits (main emptyEnv) ∷ fits (returned emptyEnv 4294967295) ∷ unfit (returned emptyEnv 4294967296) ∷
     -- a value or an expression over no frame
     unfit (main-at (val (int 5)) empty []) ∷ unfit (main-at (val (truth true)) empty []) ∷ unfit (main-at (val nothing) empty []) ∷
     unfit (main-at (eval 20) ready []) ∷
@@ -98,9 +98,9 @@ activations =
     -- the bodies of main and, called, of the others
     fits (main-at (runs 27) empty []) ∷ fits (called 2 (runs 3) (int 5 ∷ []) [] leaving) ∷
     -- function 2 over the empty caller
-    unfit (running (runs 3) calm 2 (int 5 ∷ []) [] []) ∷
+    unfit (running (runs 3) emptyEnv 2 (int 5 ∷ []) [] []) ∷
     -- no such function
-    unfit (running (val (int 5)) calm 6 [] leaving (saved 0 ready leaving ∷ [])) ∷
+    unfit (running (val (int 5)) emptyEnv 6 [] leaving (saved 0 ready leaving ∷ [])) ∷
     -- a saved caller without frames
     unfit (called 2 (runs 3) (int 5 ∷ []) [] []) ∷
     -- main calls main
@@ -205,12 +205,12 @@ callers =
     unfit (called 3 (runs 3) (int 5 ∷ []) [] leaving) ∷ unfit (called 1 (runs 7) blanks [] (Frame.store 0 ∷ after 9 ∷ [])) ∷
     unfit (called 1 (runs 7) blanks [] (after 9 ∷ [])) ∷
     -- a return of a function that gives nothing over such a callee
-    fits (running (runs 7) calm 1 blanks [] (saved 1 blanks leaving ∷ saved 0 empty discarding ∷ [])) ∷
+    fits (running (runs 7) emptyEnv 1 blanks [] (saved 1 blanks leaving ∷ saved 0 empty discarding ∷ [])) ∷
     -- a caller whose frames do not return
     unfit (called 2 (runs 3) (int 5 ∷ []) [] (Frame.discard ∷ [])) ∷
     -- a caller reads from its own variables
-    fits (running (runs 3) calm 2 (int 5 ∷ []) [] (saved 0 half (right 0 18 ∷ leaving) ∷ [])) ∷
-    unfit (running (runs 3) calm 2 (int 5 ∷ []) [] (saved 0 (nothing ∷ truth true ∷ []) (right 0 18 ∷ leaving) ∷ [])) ∷
+    fits (running (runs 3) emptyEnv 2 (int 5 ∷ []) [] (saved 0 half (right 0 18 ∷ leaving) ∷ [])) ∷
+    unfit (running (runs 3) emptyEnv 2 (int 5 ∷ []) [] (saved 0 (nothing ∷ truth true ∷ []) (right 0 18 ∷ leaving) ∷ [])) ∷
     []
 
 -- which variables have values, through control and frames

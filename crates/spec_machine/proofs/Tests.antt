@@ -10,11 +10,11 @@ use Rattle.records.specs.declared.Found.{Found}
 use Rattle.records.specs.declared.Found.the-variants.{At, Nothing}
 use Rattle.spec_language.specs.Flow.{leaves, missing, lacks}
 use Rattle.spec_machine.specs.Values.{Ty, tInt, tBool, Value, nothing, int, truth, typeV}
-use Rattle.spec_machine.specs.Program.{Head, op, fn, Ref, Program, typeN, varTypes, varType, gives}
+use Rattle.spec_machine.specs.Program.{Operation, op, fn, Ref, Program, typeN, varTypes, typeOfVar, gives}
 use Rattle.spec_machine.specs.Machine.{Frame, gather, and, wait, branch, check, Control, val, eval, exec, Saved, saved, State, exception, main, returned, running}
-use Rattle.spec_machine.specs.Fit.{isConst, IsExpr, IsStmt, AllExpr, KnownHead, held, comes, comesFrom, Hold, Holds, TakesNone, Takes, Gives, ReadsNodes, Flows, FlowsFrom, Callers, Proper, Within, Word, Words, FrameWords, ControlWord, SavedWords, InWords, Fit, callerLimit, frameLimit, savedFrames}
-use Rattle.spec_machine.specs.Run.{within}
-use Rattle.spec_machine.specs.Test.{areTy, clear, exprIn, stmtIn, exprsIn, knownHead, hold, holds, takesNone, takes, given, readsNodes, flows, flowsFrom, callers, word, words, frameWords, controlWord, savedWords, inWords, proper, fit}
+use Rattle.spec_machine.specs.Fit.{isConst, IsExpr, IsStmt, AllExpr, KnownOperation, held, comes, comesFrom, HoldsTyped, AllHoldTyped, TakesNone, Takes, ControlOver, ReadsNodes, Flows, FlowsFrom, Callers, Proper, WithinLimits, IsWord, AllWords, FramesInWords, ControlInWord, SavedInWords, InWords, Fit, callerLimit, frameLimit, savedFrameCount}
+use Rattle.spec_machine.specs.Run.{withinLimits}
+use Rattle.spec_machine.specs.Test.{areTy, clear, exprIn, stmtIn, exprsIn, knownOperation, holdsTyped, allHoldTyped, takesNone, takes, controlOver, readsNodes, flows, flowsFrom, callers, isWord, allWords, framesInWords, controlInWord, savedInWords, inWords, proper, fit}
 use Rattle.spec_machine.proofs.Says.{Says, yes-unit, never, no-bottom, itself, negated, two, three, four, six, below, at-most, same}
 
 pub types-say : (ts us : List Ty) → Says (areTy ts us) (ts ≡ us)
@@ -30,12 +30,12 @@ pub clear-says : (found : Found) → Says (clear found) (found ≡ Nothing)
 clear-says (At i x) = never (λ q. let z : _≡_ {A = ℕ} 0 1 = cc in omega arith)
 clear-says Nothing = record { so = λ e. refl; if = λ q. refl }
 
-pub hold-says : (v : Value) (t : Ty) → Says (hold v t) (Hold v t)
+pub hold-says : (v : Value) (t : Ty) → Says (holdsTyped v t) (HoldsTyped v t)
 hold-says nothing t = record { so = λ e. inl refl; if = λ h. refl }
 hold-says (int n) t = record { so = λ e. inr (same tInt t .so e); if = λ h. ⊎-elim (λ q. let z : _≡_ {A = ℕ} 0 1 = cc in absurd (omega arith)) (λ q. same tInt t .if q) h }
 hold-says (truth b) t = record { so = λ e. inr (same tBool t .so e); if = λ h. ⊎-elim (λ q. let z : _≡_ {A = ℕ} 0 1 = cc in absurd (omega arith)) (λ q. same tBool t .if q) h }
 
-pub holds-says : (vs : List Value) (ts : List Ty) → Says (holds vs ts) (Holds vs ts)
+pub holds-says : (vs : List Value) (ts : List Ty) → Says (allHoldTyped vs ts) (AllHoldTyped vs ts)
 holds-says [] [] = yes-unit
 holds-says [] (t ∷ ts) = no-bottom
 holds-says (v ∷ vs) [] = no-bottom
@@ -48,7 +48,7 @@ module _ (P : Program) where
   stmt-says : (f : ℕ) (r : Ref) → Says (stmtIn P f r) (IsStmt P f r)
   stmt-says f r = two (itself _) (itself _)
 
-  head-says : (h : Head) → Says (knownHead P h) (KnownHead P h)
+  head-says : (h : Operation) → Says (knownOperation P h) (KnownOperation P h)
   head-says (op o) = below o 16
   head-says (fn g) = below g (P .funs)
 
@@ -72,13 +72,13 @@ module _ (P : Program) where
   takes-says f t (gather h vs ns ∷ K) = four (types-say _ _) (exprs-says f ns) (takes-says f (gives P h) K) (head-says h)
   takes-says f t (and n ∷ K) = four (same t tBool) (expr-says f n) (same (typeN P f n) tBool) (takes-says f tBool K)
   takes-says f t (wait r ∷ K) = no-bottom
-  takes-says f t (Frame.store x ∷ K) = three (same t (varType (P .fun f) x)) (below _ _) (none-says f K)
+  takes-says f t (Frame.store x ∷ K) = three (same t (typeOfVar (P .fun f) x)) (below _ _) (none-says f K)
   takes-says f t (branch a b ∷ K) = four (same t tBool) (stmt-says f a) (stmt-says f b) (none-says f K)
   takes-says f t (Frame.leave ∷ K) = two (same t (P .fun f .result)) (none-says f K)
   takes-says f t (check ∷ K) = two (same t tBool) (none-says f K)
   takes-says f t (Frame.discard ∷ K) = none-says f K
 
-  given-says : (f : ℕ) (c : Control) (K : List Frame) → Says (given P f c K) (Gives P f c K)
+  given-says : (f : ℕ) (c : Control) (K : List Frame) → Says (controlOver P f c K) (ControlOver P f c K)
   given-says f (val v) K = takes-says f (typeV v) K
   given-says f (eval n) K = three (expr-says f n) (negated (isConst (P .look f n))) (takes-says f (typeN P f n) K)
   given-says f (exec r) K = two (stmt-says f r) (none-says f K)
@@ -119,23 +119,23 @@ module _ (P : Program) where
         if = λ p. r .if (p .callers, p .known, p .holds, p .frames, p .flows, p .returns);
       }
 
-pub limits-say : (s : State) → Says (within s) (Within s)
+pub limits-say : (s : State) → Says (withinLimits s) (WithinLimits s)
 limits-say (State.value c) = yes-unit
 limits-say (exception x) = yes-unit
 limits-say (main α) = yes-unit
 limits-say (returned α c) = yes-unit
-limits-say (running c α f η K A) = two (at-most (1 + length A) callerLimit) (at-most (length K + savedFrames A) frameLimit)
+limits-say (running c α f η K A) = two (at-most (1 + length A) callerLimit) (at-most (length K + savedFrameCount A) frameLimit)
 
-word-says : (v : Value) → Says (word v) (Word v)
+word-says : (v : Value) → Says (isWord v) (IsWord v)
 word-says nothing = yes-unit
 word-says (int n) = below n (2 ^ 32)
 word-says (truth b) = yes-unit
 
-values-say : (vs : List Value) → Says (words vs) (Words vs)
+values-say : (vs : List Value) → Says (allWords vs) (AllWords vs)
 values-say [] = yes-unit
 values-say (v ∷ vs) = two (word-says v) (values-say vs)
 
-frames-say : (K : List Frame) → Says (frameWords K) (FrameWords K)
+frames-say : (K : List Frame) → Says (framesInWords K) (FramesInWords K)
 frames-say [] = yes-unit
 frames-say (gather h vs ns ∷ K) = two (values-say vs) (frames-say K)
 frames-say (and n ∷ K) = frames-say K
@@ -146,12 +146,12 @@ frames-say (Frame.leave ∷ K) = frames-say K
 frames-say (check ∷ K) = frames-say K
 frames-say (Frame.discard ∷ K) = frames-say K
 
-control-says : (c : Control) → Says (controlWord c) (ControlWord c)
+control-says : (c : Control) → Says (controlInWord c) (ControlInWord c)
 control-says (val v) = word-says v
 control-says (eval n) = yes-unit
 control-says (exec r) = yes-unit
 
-saved-say : (A : List Saved) → Says (savedWords A) (SavedWords A)
+saved-say : (A : List Saved) → Says (savedInWords A) (SavedInWords A)
 saved-say [] = yes-unit
 saved-say (saved g θ L ∷ A) = three (values-say θ) (frames-say L) (saved-say A)
 

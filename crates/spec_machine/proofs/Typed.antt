@@ -7,24 +7,24 @@ use lib.ListN.{getD}
 use Rattle.spec_machine.specs.Values.{Ty, tNone, tBool, Value, nothing, typeV}
 use Rattle.spec_machine.specs.Program.{Program, typeN, varTypes, gives}
 use Rattle.spec_machine.specs.Machine.{Frame, gather, and, wait, branch, check, val, eval, exec, Saved, saved, State, exception, main, returned, running}
-use Rattle.spec_machine.specs.Typed.{Of, AllOf, Operands, AtHand, SavedTyped, Typed}
-use Rattle.spec_machine.specs.Fit.{Holds, held, TakesNone, Takes, Callers, Word, Words, FrameWords, SavedWords, Fit}
+use Rattle.spec_machine.specs.Typed.{Of, AllOf, OperandsTyped, AtHand, SavedTyped, Typed}
+use Rattle.spec_machine.specs.Fit.{AllHoldTyped, held, TakesNone, Takes, Callers, IsWord, AllWords, FramesInWords, SavedInWords, Fit}
 use Rattle.spec_machine.proofs.Holding.{read-type}
-use Rattle.spec_machine.proofs.Words.{word-at}
+use Rattle.spec_machine.proofs.KeepWords.{word-at}
 
-variables : (η : List Value) (ts : List Ty) → Holds η ts → Words η → (x : ℕ) → held η x ≡ true → Of (getD η x nothing) (getD ts x tNone)
+variables : (η : List Value) (ts : List Ty) → AllHoldTyped η ts → AllWords η → (x : ℕ) → held η x ≡ true → Of (getD η x nothing) (getD ts x tNone)
 variables η ts h w x e = (read-type η ts x h e, word-at η x w)
 
 -- values before others are of their own types
-front : (vs : List Value) (ts : List Ty) → Words vs → AllOf vs (map typeV vs ++ ts)
+front : (vs : List Value) (ts : List Ty) → AllWords vs → AllOf vs (map typeV vs ++ ts)
 front [] ts w = tt
 front (v ∷ vs) ts w = ((refl, w .0), front vs ts (w .1))
 
-next : (vs : List Value) (v : Value) (ts : List Ty) → Words vs → Word v → AllOf (vs ++ (v ∷ [])) (map typeV vs ++ (typeV v ∷ ts))
+next : (vs : List Value) (v : Value) (ts : List Ty) → AllWords vs → IsWord v → AllOf (vs ++ (v ∷ [])) (map typeV vs ++ (typeV v ∷ ts))
 next [] v ts w u = ((refl, u), tt)
 next (x ∷ vs) v ts w u = ((refl, w .0), next vs v ts (w .1) u)
 
-none-operands : (P : Program) (f : ℕ) (K : List Frame) → TakesNone P f K → Operands P K
+none-operands : (P : Program) (f : ℕ) (K : List Frame) → TakesNone P f K → OperandsTyped P K
 none-operands P f [] k = tt
 none-operands P f (gather h vs ns ∷ K) k = absurd k
 none-operands P f (and n ∷ K) k = absurd k
@@ -35,7 +35,7 @@ none-operands P f (Frame.leave ∷ K) k = absurd k
 none-operands P f (check ∷ K) k = absurd k
 none-operands P f (Frame.discard ∷ K) k = absurd k
 
-operands : (P : Program) (f : ℕ) (t : Ty) (K : List Frame) → Takes P f t K → FrameWords K → Operands P K
+operands : (P : Program) (f : ℕ) (t : Ty) (K : List Frame) → Takes P f t K → FramesInWords K → OperandsTyped P K
 operands P f t [] k w = absurd k
 operands P f t (gather h vs ns ∷ K) k w = (rw (k .0) (front vs (t ∷ map (typeN P f) ns) (w .0)), operands P f (gives P h) K (k .2) (w .1))
 operands P f t (and n ∷ K) k w = operands P f tBool K (k .3) w
@@ -46,7 +46,7 @@ operands P f t (Frame.leave ∷ K) k w = none-operands P f K (k .1)
 operands P f t (check ∷ K) k w = none-operands P f K (k .1)
 operands P f t (Frame.discard ∷ K) k w = none-operands P f K k
 
-hand : (P : Program) (f : ℕ) (v : Value) (K : List Frame) → Takes P f (typeV v) K → Word v → FrameWords K → AtHand P f v K
+hand : (P : Program) (f : ℕ) (v : Value) (K : List Frame) → Takes P f (typeV v) K → IsWord v → FramesInWords K → AtHand P f v K
 hand P f v [] k u w = absurd k
 hand P f v (gather h vs ns ∷ K) k u w = rw (k .0) (next vs v (map (typeN P f) ns) (w .0) u)
 hand P f v (and n ∷ K) k u w = (k .0, u)
@@ -57,7 +57,7 @@ hand P f v (Frame.leave ∷ K) k u w = (k .0, u)
 hand P f v (check ∷ K) k u w = (k .0, u)
 hand P f v (Frame.discard ∷ K) k u w = u
 
-saved-typed : (P : Program) (f : ℕ) (A : List Saved) → Callers P f A → SavedWords A → SavedTyped P A
+saved-typed : (P : Program) (f : ℕ) (A : List Saved) → Callers P f A → SavedInWords A → SavedTyped P A
 saved-typed P f [] k w = tt
 saved-typed P f (saved g θ L ∷ A) k w =
     (variables θ (varTypes (P .fun g)) (k .0) (w .0), operands P g (P .fun f .result) L (k .1) (w .1), saved-typed P g A (k .4) (w .2))

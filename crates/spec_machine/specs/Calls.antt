@@ -28,8 +28,8 @@ module _ (File Given Mem : Type 0) (file : Given → File) where
       pub given : form kind .In
 
     -- what a call is given to read, what it leaves in the memory, and that it is accepted
-    abbrev pub readsOf : Call → Given
-    readsOf c = form (c .kind) .reads (c .given)
+    abbrev pub givenTo : Call → Given
+    givenTo c = form (c .kind) .reads (c .given)
 
     abbrev pub afterOf : Call → Mem → Mem
     afterOf c m = form (c .kind) .after (c .given) m
@@ -40,11 +40,11 @@ module _ (File Given Mem : Type 0) (file : Given → File) where
     -- every accepted call has the one file, a refused one any
     abbrev pub OneFile : File → List Call → Mem → Type 0
     OneFile φ [] m = Unit {0}
-    OneFile φ (c ∷ cs) m = (Accepts c m → file (readsOf c) ≡ φ) × OneFile φ cs (afterOf c m)
+    OneFile φ (c ∷ cs) m = (Accepts c m → file (givenTo c) ≡ φ) × OneFile φ cs (afterOf c m)
 
     -- what one call does to the machine, and what the last accepted call was given to read
     pub data Handled (c : Call) (m : Mem) (σ : Machine) (e : Given) : Machine → Given → Type 0 where
-      does : {τ : Machine} → Accepts c m → form (c .kind) .Does (c .given) (form (c .kind) .answer (c .given) m) σ τ → Handled c m σ e τ (readsOf c)
+      does : {τ : Machine} → Accepts c m → form (c .kind) .Does (c .given) (form (c .kind) .answer (c .given) m) σ τ → Handled c m σ e τ (givenTo c)
       stays : ¬ Accepts c m → afterOf c m ≡ m → Handled c m σ e σ e
 
     -- after each call the memory holds the machine's image; at the end `Last` holds

@@ -10,7 +10,7 @@ use Rattle.records.specs.Children.{children}
 use Rattle.spec_language.specs.Statements.{Shape, shapeAt, readsOf, statementAt, Statement, Nop, Seq, Assign, Decl, If, While, Return, Assert, Expr}
 use Rattle.spec_language.specs.Types as types
 use Rattle.spec_machine.specs.Values.{nothing, int, truth, Ty}
-use Rattle.spec_machine.specs.Program.{op, fn, Ref, node, ifOf, seqOf, Look, const, apply, Form, Fun, Program}
+use Rattle.spec_machine.specs.Program.{op, fn, Ref, node, ifOf, seqOf, ExprForm, const, apply, StmtForm, Fun, Program}
 
 -- the last first, before those in `acc`
 unfoldable pub backwards : List ℕ → List ℕ → List ℕ
@@ -22,72 +22,72 @@ unfoldable pub kids : List ℕ → ℕ → List ℕ
 kids t i = backwards (children t i) []
 
 -- the two children of an &&
-unfoldable pub andOf : List ℕ → Look
-andOf [] = Look.stray
-andOf (l ∷ []) = Look.stray
-andOf (l ∷ (m ∷ [])) = Look.and l m
-andOf (l ∷ (m ∷ (k ∷ ks))) = Look.stray
+unfoldable pub andForm : List ℕ → ExprForm
+andForm [] = ExprForm.stray
+andForm (l ∷ []) = ExprForm.stray
+andForm (l ∷ (m ∷ [])) = ExprForm.and l m
+andForm (l ∷ (m ∷ (k ∷ ks))) = ExprForm.stray
 
 -- kinds 0 to 5: int, bool, variable, operator, &&, call
-unfoldable pub looks : List ℕ → ℕ → List Look
+unfoldable pub looks : List ℕ → ℕ → List ExprForm
 looks t i =
-    const (int (bAt t i)) ∷ const (truth (eqb (bAt t i) 1)) ∷ Look.var (bAt t i) ∷ apply (op (aAt t i)) (kids t i) ∷ andOf (kids t i) ∷ apply (fn (bAt t i)) (kids t i) ∷ []
+    const (int (bAt t i)) ∷ const (truth (eqb (bAt t i) 1)) ∷ ExprForm.var (bAt t i) ∷ apply (op (aAt t i)) (kids t i) ∷ andForm (kids t i) ∷ apply (fn (bAt t i)) (kids t i) ∷ []
 
 -- one level of the expression at node i; kind 15 is the value nothing
-unfoldable pub lookAt : List ℕ → ℕ → Look
-lookAt t i = pick (eqb (kindAt t i) 15) (const nothing) (getD (looks t i) (kindAt t i) Look.stray)
+unfoldable pub lookAt : List ℕ → ℕ → ExprForm
+lookAt t i = pick (eqb (kindAt t i) 15) (const nothing) (getD (looks t i) (kindAt t i) ExprForm.stray)
 
 -- nop is one and the same
 unfoldable pub refAt : List ℕ → ℕ → Ref
 refAt t i = pick (eqb (kindAt t i) 6) Ref.nop (node i)
 
 -- one level of the statement at node i, its statements by their references
-unfoldable pub formOf : List ℕ → ℕ → Shape → Form
-formOf t i Shape.nop = Form.nop
-formOf t i (Shape.seq a b) = Form.seq (refAt t a) (refAt t b)
-formOf t i (Shape.assign x e) = Form.assign x e
-formOf t i (Shape.decl x a) = Form.decl x (refAt t a)
-formOf t i (Shape.if e a b) = Form.if e (refAt t a) (refAt t b)
-formOf t i (Shape.while e a) = Form.while i e (refAt t a)
-formOf t i (Shape.return e) = Form.return e
-formOf t i (Shape.assert e) = Form.assert e
-formOf t i (Shape.expr e) = Form.expr e
-formOf t i Shape.stray = Form.stray
+unfoldable pub formOf : List ℕ → ℕ → Shape → StmtForm
+formOf t i Shape.nop = StmtForm.nop
+formOf t i (Shape.seq a b) = StmtForm.seq (refAt t a) (refAt t b)
+formOf t i (Shape.assign x e) = StmtForm.assign x e
+formOf t i (Shape.decl x a) = StmtForm.decl x (refAt t a)
+formOf t i (Shape.if e a b) = StmtForm.if e (refAt t a) (refAt t b)
+formOf t i (Shape.while e a) = StmtForm.while i e (refAt t a)
+formOf t i (Shape.return e) = StmtForm.return e
+formOf t i (Shape.assert e) = StmtForm.assert e
+formOf t i (Shape.expr e) = StmtForm.expr e
+formOf t i Shape.stray = StmtForm.stray
 
 -- no node stands before node 0, so it has no children
-unfoldable pub formAt : List ℕ → ℕ → Form
-formAt t zero = pick (eqb (kindAt t 0) 6) Form.nop Form.stray
+unfoldable pub formAt : List ℕ → ℕ → StmtForm
+formAt t zero = pick (eqb (kindAt t 0) 6) StmtForm.nop StmtForm.stray
 formAt t (suc i) = formOf t (suc i) (shapeAt t (suc i))
 
 -- the if that a while equals, and the seq in it
-unfoldable pub ifForm : ℕ → Form → Form
-ifForm w (Form.while v e a) = Form.if e (seqOf w) Ref.nop
-ifForm w Form.nop = Form.stray
-ifForm w (Form.seq a b) = Form.stray
-ifForm w (Form.assign x e) = Form.stray
-ifForm w (Form.decl x a) = Form.stray
-ifForm w (Form.if e a b) = Form.stray
-ifForm w (Form.return e) = Form.stray
-ifForm w (Form.assert e) = Form.stray
-ifForm w (Form.expr e) = Form.stray
-ifForm w Form.stray = Form.stray
+unfoldable pub ifForm : ℕ → StmtForm → StmtForm
+ifForm w (StmtForm.while v e a) = StmtForm.if e (seqOf w) Ref.nop
+ifForm w StmtForm.nop = StmtForm.stray
+ifForm w (StmtForm.seq a b) = StmtForm.stray
+ifForm w (StmtForm.assign x e) = StmtForm.stray
+ifForm w (StmtForm.decl x a) = StmtForm.stray
+ifForm w (StmtForm.if e a b) = StmtForm.stray
+ifForm w (StmtForm.return e) = StmtForm.stray
+ifForm w (StmtForm.assert e) = StmtForm.stray
+ifForm w (StmtForm.expr e) = StmtForm.stray
+ifForm w StmtForm.stray = StmtForm.stray
 
-unfoldable pub seqForm : ℕ → Form → Form
-seqForm w (Form.while v e a) = Form.seq a (node w)
-seqForm w Form.nop = Form.stray
-seqForm w (Form.seq a b) = Form.stray
-seqForm w (Form.assign x e) = Form.stray
-seqForm w (Form.decl x a) = Form.stray
-seqForm w (Form.if e a b) = Form.stray
-seqForm w (Form.return e) = Form.stray
-seqForm w (Form.assert e) = Form.stray
-seqForm w (Form.expr e) = Form.stray
-seqForm w Form.stray = Form.stray
+unfoldable pub seqForm : ℕ → StmtForm → StmtForm
+seqForm w (StmtForm.while v e a) = StmtForm.seq a (node w)
+seqForm w StmtForm.nop = StmtForm.stray
+seqForm w (StmtForm.seq a b) = StmtForm.stray
+seqForm w (StmtForm.assign x e) = StmtForm.stray
+seqForm w (StmtForm.decl x a) = StmtForm.stray
+seqForm w (StmtForm.if e a b) = StmtForm.stray
+seqForm w (StmtForm.return e) = StmtForm.stray
+seqForm w (StmtForm.assert e) = StmtForm.stray
+seqForm w (StmtForm.expr e) = StmtForm.stray
+seqForm w StmtForm.stray = StmtForm.stray
 
 -- one level of a statement by its reference
-unfoldable pub seeAt : List ℕ → Ref → Form
+unfoldable pub seeAt : List ℕ → Ref → StmtForm
 seeAt t (node i) = formAt t i
-seeAt t Ref.nop = Form.nop
+seeAt t Ref.nop = StmtForm.nop
 seeAt t (ifOf w) = ifForm w (formAt t w)
 seeAt t (seqOf w) = seqForm w (formAt t w)
 

@@ -9,8 +9,8 @@ use Rattle.varset.specs.Sets.{Set, with, both}
 use Rattle.records.specs.declared.Found.the-variants.{Nothing}
 use Rattle.spec_language.specs.Flow.{leaves, missing, lacks, returns}
 use Rattle.spec_machine.specs.Values.{Ty, tBool, Value, nothing, int, truth, typeV}
-use Rattle.spec_machine.specs.Program.{Head, op, fn, Ref, node, ifOf, seqOf, Look, const, apply, Form, Program, owns, typeN, varTypes, varType, wants, gives}
-use Rattle.spec_machine.specs.Machine.{Frame, gather, and, wait, branch, check, Control, val, eval, exec, Saved, saved, Ambient, State, exception, main, returned, running}
+use Rattle.spec_machine.specs.Program.{Operation, op, fn, Ref, node, ifOf, seqOf, ExprForm, const, apply, StmtForm, Program, owns, typeN, varTypes, typeOfVar, wants, gives}
+use Rattle.spec_machine.specs.Machine.{Frame, gather, and, wait, branch, check, Control, val, eval, exec, Saved, saved, RunEnv, State, exception, main, returned, running}
 
 -- the limits
 abbrev pub callerLimit : ℕ
@@ -19,55 +19,55 @@ callerLimit = 32
 abbrev pub frameLimit : ℕ
 frameLimit = 512
 
-abbrev pub savedFrames : List Saved → ℕ
-savedFrames [] = 0
-savedFrames (saved g θ L ∷ A) = length L + savedFrames A
+abbrev pub savedFrameCount : List Saved → ℕ
+savedFrameCount [] = 0
+savedFrameCount (saved g θ L ∷ A) = length L + savedFrameCount A
 
-abbrev pub Within : State → Type 0
-Within (State.value c) = Unit {0}
-Within (exception x) = Unit {0}
-Within (main α) = Unit {0}
-Within (returned α c) = Unit {0}
-Within (running c α f η K A) = (1 + length A ≤ callerLimit) × (length K + savedFrames A ≤ frameLimit)
+abbrev pub WithinLimits : State → Type 0
+WithinLimits (State.value c) = Unit {0}
+WithinLimits (exception x) = Unit {0}
+WithinLimits (main α) = Unit {0}
+WithinLimits (returned α c) = Unit {0}
+WithinLimits (running c α f η K A) = (1 + length A ≤ callerLimit) × (length K + savedFrameCount A ≤ frameLimit)
 
 -- sorts: what an expression, what a statement of a function is
-abbrev pub isExpr : Look → Bool
+abbrev pub isExpr : ExprForm → Bool
 isExpr (const v) = true
-isExpr (Look.var x) = true
+isExpr (ExprForm.var x) = true
 isExpr (apply h ns) = true
-isExpr (Look.and n m) = true
-isExpr Look.stray = false
+isExpr (ExprForm.and n m) = true
+isExpr ExprForm.stray = false
 
-abbrev pub isConst : Look → Bool
+abbrev pub isConst : ExprForm → Bool
 isConst (const v) = true
-isConst (Look.var x) = false
+isConst (ExprForm.var x) = false
 isConst (apply h ns) = false
-isConst (Look.and n m) = false
-isConst Look.stray = false
+isConst (ExprForm.and n m) = false
+isConst ExprForm.stray = false
 
-abbrev pub isStmt : Form → Bool
-isStmt Form.nop = true
-isStmt (Form.seq a b) = true
-isStmt (Form.assign x n) = true
-isStmt (Form.decl x a) = true
-isStmt (Form.if n a b) = true
-isStmt (Form.while w n a) = true
-isStmt (Form.return n) = true
-isStmt (Form.assert n) = true
-isStmt (Form.expr n) = true
-isStmt Form.stray = false
+abbrev pub isStmt : StmtForm → Bool
+isStmt StmtForm.nop = true
+isStmt (StmtForm.seq a b) = true
+isStmt (StmtForm.assign x n) = true
+isStmt (StmtForm.decl x a) = true
+isStmt (StmtForm.if n a b) = true
+isStmt (StmtForm.while w n a) = true
+isStmt (StmtForm.return n) = true
+isStmt (StmtForm.assert n) = true
+isStmt (StmtForm.expr n) = true
+isStmt StmtForm.stray = false
 
-abbrev pub isNop : Form → Bool
-isNop Form.nop = true
-isNop (Form.seq a b) = false
-isNop (Form.assign x n) = false
-isNop (Form.decl x a) = false
-isNop (Form.if n a b) = false
-isNop (Form.while w n a) = false
-isNop (Form.return n) = false
-isNop (Form.assert n) = false
-isNop (Form.expr n) = false
-isNop Form.stray = false
+abbrev pub isNop : StmtForm → Bool
+isNop StmtForm.nop = true
+isNop (StmtForm.seq a b) = false
+isNop (StmtForm.assign x n) = false
+isNop (StmtForm.decl x a) = false
+isNop (StmtForm.if n a b) = false
+isNop (StmtForm.while w n a) = false
+isNop (StmtForm.return n) = false
+isNop (StmtForm.assert n) = false
+isNop (StmtForm.expr n) = false
+isNop StmtForm.stray = false
 
 -- a statement of the function; a nop is known by no node
 abbrev pub owned : Program → ℕ → Ref → Bool
@@ -91,13 +91,13 @@ abbrev pub Var : Program → ℕ → ℕ → Type 0
 Var P f x = x < length (varTypes (P .fun f))
 
 -- the program has this function
-abbrev pub Known : Program → ℕ → Type 0
-Known P f = f < P .funs
+abbrev pub HasFunction : Program → ℕ → Type 0
+HasFunction P f = f < P .funs
 
 -- one of the sixteen operators, or a function of the program
-abbrev pub KnownHead : Program → Head → Type 0
-KnownHead P (op o) = o < 16
-KnownHead P (fn g) = Known P g
+abbrev pub KnownOperation : Program → Operation → Type 0
+KnownOperation P (op o) = o < 16
+KnownOperation P (fn g) = HasFunction P g
 
 -- every variable that an expression, or a statement, reads has a value by then
 abbrev pub Reads : Program → ℕ → ℕ → Set → Type 0
@@ -112,14 +112,14 @@ ReadsNodes P f [] d = Unit {0}
 ReadsNodes P f (n ∷ ns) d = Reads P f n d × ReadsNodes P f ns d
 
 -- what a variable holds: nothing, or a value of its type
-abbrev pub Hold : Value → Ty → Type 0
-Hold v t = (v ≡ nothing) ⊎ (typeV v ≡ t)
+abbrev pub HoldsTyped : Value → Ty → Type 0
+HoldsTyped v t = (v ≡ nothing) ⊎ (typeV v ≡ t)
 
-abbrev pub Holds : List Value → List Ty → Type 0
-Holds [] [] = Unit {0}
-Holds [] (t ∷ ts) = ⊥
-Holds (v ∷ vs) [] = ⊥
-Holds (v ∷ vs) (t ∷ ts) = Hold v t × Holds vs ts
+abbrev pub AllHoldTyped : List Value → List Ty → Type 0
+AllHoldTyped [] [] = Unit {0}
+AllHoldTyped [] (t ∷ ts) = ⊥
+AllHoldTyped (v ∷ vs) [] = ⊥
+AllHoldTyped (v ∷ vs) (t ∷ ts) = HoldsTyped v t × AllHoldTyped vs ts
 
 abbrev pub isSome : Value → Bool
 isSome nothing = false
@@ -145,20 +145,20 @@ TakesNone P f (Frame.discard ∷ K) = ⊥
 -- frames that are given a value of type t
 abbrev pub Takes : Program → ℕ → Ty → List Frame → Type 0
 Takes P f t [] = ⊥
-Takes P f t (gather h vs ns ∷ K) = (wants P h ≡ map typeV vs ++ (t ∷ map (typeN P f) ns)) × AllExpr P f ns × Takes P f (gives P h) K × KnownHead P h
+Takes P f t (gather h vs ns ∷ K) = (wants P h ≡ map typeV vs ++ (t ∷ map (typeN P f) ns)) × AllExpr P f ns × Takes P f (gives P h) K × KnownOperation P h
 Takes P f t (and n ∷ K) = (t ≡ tBool) × IsExpr P f n × (typeN P f n ≡ tBool) × Takes P f tBool K
 Takes P f t (wait r ∷ K) = ⊥
-Takes P f t (Frame.store x ∷ K) = (t ≡ varType (P .fun f) x) × Var P f x × TakesNone P f K
+Takes P f t (Frame.store x ∷ K) = (t ≡ typeOfVar (P .fun f) x) × Var P f x × TakesNone P f K
 Takes P f t (branch a b ∷ K) = (t ≡ tBool) × IsStmt P f a × IsStmt P f b × TakesNone P f K
 Takes P f t (Frame.leave ∷ K) = (t ≡ P .fun f .result) × TakesNone P f K
 Takes P f t (check ∷ K) = (t ≡ tBool) × TakesNone P f K
 Takes P f t (Frame.discard ∷ K) = TakesNone P f K
 
 -- the control, over its frames
-abbrev pub Gives : Program → ℕ → Control → List Frame → Type 0
-Gives P f (val v) K = Takes P f (typeV v) K
-Gives P f (eval n) K = IsExpr P f n × (isConst (P .look f n) ≡ false) × Takes P f (typeN P f n) K
-Gives P f (exec r) K = IsStmt P f r × TakesNone P f K
+abbrev pub ControlOver : Program → ℕ → Control → List Frame → Type 0
+ControlOver P f (val v) K = Takes P f (typeV v) K
+ControlOver P f (eval n) K = IsExpr P f n × (isConst (P .look f n) ≡ false) × Takes P f (typeN P f n) K
+ControlOver P f (exec r) K = IsStmt P f r × TakesNone P f K
 
 -- rule 13 followed through control and frames
 abbrev pub Flows : Program → ℕ → List Frame → Set → Type 0
@@ -198,13 +198,13 @@ comesFrom P f (exec r) K = returns (P .stmt f r) || comes P f K
 abbrev pub Callers : Program → ℕ → List Saved → Type 0
 Callers P f [] = f ≡ 0
 Callers P f (saved g θ L ∷ A) =
-    Holds θ (varTypes (P .fun g)) × Takes P g (P .fun f .result) L × Flows P g L (held θ) × (comes P g L ≡ true) × Callers P g A × Known P g
+    AllHoldTyped θ (varTypes (P .fun g)) × Takes P g (P .fun f .result) L × Flows P g L (held θ) × (comes P g L ≡ true) × Callers P g A × HasFunction P g
 
-pub record Running (P : Program) (c : Control) (α : Ambient) (f : ℕ) (η : List Value) (K : List Frame) (A : List Saved) : Type 0 where
+pub record Running (P : Program) (c : Control) (α : RunEnv) (f : ℕ) (η : List Value) (K : List Frame) (A : List Saved) : Type 0 where
   pub callers : Callers P f A
-  pub known : Known P f
-  pub holds : Holds η (varTypes (P .fun f))
-  pub frames : Gives P f c K
+  pub known : HasFunction P f
+  pub holds : AllHoldTyped η (varTypes (P .fun f))
+  pub frames : ControlOver P f c K
   pub flows : FlowsFrom P f c K (held η)
   pub returns : comesFrom P f c K ≡ true
 
@@ -216,44 +216,44 @@ Proper P (returned α c) = Unit {0}
 Proper P (running c α f η K A) = Running P c α f η K A
 
 -- every int is a word of 32 bits
-abbrev pub Word : Value → Type 0
-Word nothing = Unit {0}
-Word (int n) = n < 2 ^ 32
-Word (truth b) = Unit {0}
+abbrev pub IsWord : Value → Type 0
+IsWord nothing = Unit {0}
+IsWord (int n) = n < 2 ^ 32
+IsWord (truth b) = Unit {0}
 
-abbrev pub Words : List Value → Type 0
-Words [] = Unit {0}
-Words (v ∷ vs) = Word v × Words vs
+abbrev pub AllWords : List Value → Type 0
+AllWords [] = Unit {0}
+AllWords (v ∷ vs) = IsWord v × AllWords vs
 
-abbrev pub FrameWords : List Frame → Type 0
-FrameWords [] = Unit {0}
-FrameWords (gather h vs ns ∷ K) = Words vs × FrameWords K
-FrameWords (and n ∷ K) = FrameWords K
-FrameWords (wait r ∷ K) = FrameWords K
-FrameWords (Frame.store x ∷ K) = FrameWords K
-FrameWords (branch a b ∷ K) = FrameWords K
-FrameWords (Frame.leave ∷ K) = FrameWords K
-FrameWords (check ∷ K) = FrameWords K
-FrameWords (Frame.discard ∷ K) = FrameWords K
+abbrev pub FramesInWords : List Frame → Type 0
+FramesInWords [] = Unit {0}
+FramesInWords (gather h vs ns ∷ K) = AllWords vs × FramesInWords K
+FramesInWords (and n ∷ K) = FramesInWords K
+FramesInWords (wait r ∷ K) = FramesInWords K
+FramesInWords (Frame.store x ∷ K) = FramesInWords K
+FramesInWords (branch a b ∷ K) = FramesInWords K
+FramesInWords (Frame.leave ∷ K) = FramesInWords K
+FramesInWords (check ∷ K) = FramesInWords K
+FramesInWords (Frame.discard ∷ K) = FramesInWords K
 
-abbrev pub ControlWord : Control → Type 0
-ControlWord (val v) = Word v
-ControlWord (eval n) = Unit {0}
-ControlWord (exec r) = Unit {0}
+abbrev pub ControlInWord : Control → Type 0
+ControlInWord (val v) = IsWord v
+ControlInWord (eval n) = Unit {0}
+ControlInWord (exec r) = Unit {0}
 
-abbrev pub SavedWords : List Saved → Type 0
-SavedWords [] = Unit {0}
-SavedWords (saved g θ L ∷ A) = Words θ × FrameWords L × SavedWords A
+abbrev pub SavedInWords : List Saved → Type 0
+SavedInWords [] = Unit {0}
+SavedInWords (saved g θ L ∷ A) = AllWords θ × FramesInWords L × SavedInWords A
 
 abbrev pub InWords : State → Type 0
 InWords (State.value c) = c < 2 ^ 32
 InWords (exception x) = Unit {0}
 InWords (main α) = Unit {0}
 InWords (returned α c) = c < 2 ^ 32
-InWords (running c α f η K A) = ControlWord c × Words η × FrameWords K × SavedWords A
+InWords (running c α f η K A) = ControlInWord c × AllWords η × FramesInWords K × SavedInWords A
 
 -- a fit state
 pub record Fit (P : Program) (s : State) : Type 0 where
   pub words : InWords s
-  pub within : Within s
+  pub within : WithinLimits s
   pub proper : Proper P s

@@ -9,9 +9,9 @@ use Rattle.spec_language.specs.Statements.{Read, Statement, Nop, Seq, Assign, D
 use Rattle.spec_machine.specs.Values.{Value, Ty, tNone, tInt, tBool, typeV}
 
 -- what gathers operands: an operator, or a function, by its number
-pub data Head : Type 0 where
-  op : ℕ → Head
-  fn : ℕ → Head
+pub data Operation : Type 0 where
+  op : ℕ → Operation
+  fn : ℕ → Operation
 
 -- a statement is known by its node; nop is one and the same; the if and the seq of a while by the while's node
 pub data Ref : Type 0 where
@@ -21,25 +21,25 @@ pub data Ref : Type 0 where
   seqOf : ℕ → Ref
 
 -- one level of an expression, its parts by their nodes
-pub data Look : Type 0 where
-  const : Value → Look
-  var : ℕ → Look
-  apply : Head → List ℕ → Look
-  and : ℕ → ℕ → Look
-  stray : Look
+pub data ExprForm : Type 0 where
+  const : Value → ExprForm
+  var : ℕ → ExprForm
+  apply : Operation → List ℕ → ExprForm
+  and : ℕ → ℕ → ExprForm
+  stray : ExprForm
 
 -- one level of a statement
-pub data Form : Type 0 where
-  nop : Form
-  seq : Ref → Ref → Form
-  assign : ℕ → ℕ → Form
-  decl : ℕ → Ref → Form
-  if : ℕ → Ref → Ref → Form
-  while : ℕ → ℕ → Ref → Form
-  return : ℕ → Form
-  assert : ℕ → Form
-  expr : ℕ → Form
-  stray : Form
+pub data StmtForm : Type 0 where
+  nop : StmtForm
+  seq : Ref → Ref → StmtForm
+  assign : ℕ → ℕ → StmtForm
+  decl : ℕ → Ref → StmtForm
+  if : ℕ → Ref → Ref → StmtForm
+  while : ℕ → ℕ → Ref → StmtForm
+  return : ℕ → StmtForm
+  assert : ℕ → StmtForm
+  expr : ℕ → StmtForm
+  stray : StmtForm
 
 -- a function: its result type, the types of its parameters and of its other variables, and its body
 pub record Fun : Type 0 where
@@ -49,7 +49,7 @@ pub record Fun : Type 0 where
   pub body : Ref
 
 -- the tree of one level, from the reads of its expressions and the trees of its statements
-abbrev pub growF : (ℕ → List Read) → (Ref → Statement) → Form → Statement
+abbrev pub growF : (ℕ → List Read) → (Ref → Statement) → StmtForm → Statement
 growF r g nop = Nop
 growF r g (seq a b) = Seq (g a) (g b)
 growF r g (assign x n) = Assign x (r n)
@@ -67,8 +67,8 @@ pub record Program : Type 0 where
   pub funs : ℕ
   pub fun : ℕ → Fun
   pub nodes : ℕ → ℕ
-  pub look : ℕ → ℕ → Look
-  pub see : ℕ → Ref → Form
+  pub look : ℕ → ℕ → ExprForm
+  pub see : ℕ → Ref → StmtForm
   pub reads : ℕ → ℕ → List Read
   pub stmt : ℕ → Ref → Statement
 
@@ -79,22 +79,22 @@ owns P f n = ltb n (P .nodes f)
 abbrev pub varTypes : Fun → List Ty
 varTypes f = f .params ++ f .locals
 
-abbrev pub varType : Fun → ℕ → Ty
-varType f x = getD (varTypes f) x tNone
+abbrev pub typeOfVar : Fun → ℕ → Ty
+typeOfVar f x = getD (varTypes f) x tNone
 
 -- operators take two ints, and 10 to 15 give bool
-abbrev pub wants : Program → Head → List Ty
+abbrev pub wants : Program → Operation → List Ty
 wants P (op o) = tInt ∷ tInt ∷ []
 wants P (fn f) = P .fun f .params
 
-abbrev pub gives : Program → Head → Ty
+abbrev pub gives : Program → Operation → Ty
 gives P (op o) = pick (ltb o 10) tInt tBool
 gives P (fn f) = P .fun f .result
 
 -- the type of an expression of function f, by its one level
-abbrev pub typeL : Program → ℕ → Look → Ty
+abbrev pub typeL : Program → ℕ → ExprForm → Ty
 typeL P f (const v) = typeV v
-typeL P f (var x) = varType (P .fun f) x
+typeL P f (var x) = typeOfVar (P .fun f) x
 typeL P f (apply h ns) = gives P h
 typeL P f (and n m) = tBool
 typeL P f stray = tNone

@@ -6,12 +6,13 @@ use mathlib.Core.Option.{Option, none, some}
 use Prim.Native.Nat.{ℕ, zero, suc, _+_}
 use lib.Dec.{ltb, leb}
 use lib.ListN.{length}
+use Rattle.varset.specs.Lowest.{pick}
 use Rattle.varset.specs.Sets.{Set, with, without}
 use Rattle.spec_machine.specs.Values.{Value}
 use Rattle.spec_machine.specs.Program.{Program}
 use Rattle.spec_machine.specs.Machine.{Exception, State, exception, main, returned, running, Saved, saved, Rule, Event, quiet, reads, has, lacks, enters, leaves, ends, Step}
 use Rattle.spec_machine.specs.Next.{Move, stuck, next}
-use Rattle.spec_machine.specs.Fit.{held, Within, callerLimit, frameLimit, savedFrames}
+use Rattle.spec_machine.specs.Fit.{held, WithinLimits, callerLimit, frameLimit, savedFrameCount}
 
 -- what an event makes of the history: for each activation, the current one first, the variables that have a value
 abbrev pub carry : Event → List Set → List Set
@@ -27,13 +28,13 @@ carry leaves (d ∷ h) = h
 carry ends h = []
 
 -- a step that reads its variable finds it in the last set
-abbrev pub Top : ℕ → List Set → Type 0
-Top x [] = ⊥
-Top x (d ∷ h) = d x ≡ true
+abbrev pub HeldInLast : ℕ → List Set → Type 0
+HeldInLast x [] = ⊥
+HeldInLast x (d ∷ h) = d x ≡ true
 
 abbrev pub ReadsHeld : Event → List Set → Type 0
 ReadsHeld quiet h = Unit {0}
-ReadsHeld (reads x) h = Top x h
+ReadsHeld (reads x) h = HeldInLast x h
 ReadsHeld (has x) h = Unit {0}
 ReadsHeld (lacks x) h = Unit {0}
 ReadsHeld (enters n) h = Unit {0}
@@ -71,17 +72,17 @@ pub data RunsTo (P : Program) : State → List Set → ℕ → ℕ → State →
   ended : {c a : ℕ} {h : List Set} → RunsTo P (State.value c) h a 0 (State.value c) h (Outcome.value c)
   failed : {x : Exception} {a : ℕ} {h : List Set} → RunsTo P (exception x) h a 0 (exception x) h (raised x)
   spent : {s : State} {h : List Set} → Going s → RunsTo P s h 0 0 s h Spent
-  full : {s t : State} {r : Rule} {v : Event} {a : ℕ} {h : List Set} → Step P r v s t → ¬ Within t → RunsTo P s h (suc a) 0 s h Full
-  goes : {s t u : State} {r : Rule} {v : Event} {a k : ℕ} {h h′ : List Set} {o : Outcome} → Step P r v s t → Within t → ReadsHeld v h
+  full : {s t : State} {r : Rule} {v : Event} {a : ℕ} {h : List Set} → Step P r v s t → ¬ WithinLimits t → RunsTo P s h (suc a) 0 s h Full
+  goes : {s t u : State} {r : Rule} {v : Event} {a k : ℕ} {h h′ : List Set} {o : Outcome} → Step P r v s t → WithinLimits t → ReadsHeld v h
       → RunsTo P t (carry v h) a k u h′ o → RunsTo P s h (suc a) (suc k) u h′ o
 
 -- the run as a function
-abbrev pub within : State → Bool
-within (State.value c) = true
-within (exception x) = true
-within (main α) = true
-within (returned α c) = true
-within (running c α f η K A) = leb (1 + length A) callerLimit && leb (length K + savedFrames A) frameLimit
+abbrev pub withinLimits : State → Bool
+withinLimits (State.value c) = true
+withinLimits (exception x) = true
+withinLimits (main α) = true
+withinLimits (returned α c) = true
+withinLimits (running c α f η K A) = leb (1 + length A) callerLimit && leb (length K + savedFrameCount A) frameLimit
 
 pub record Ran : Type 0 where
   pub outcome : Outcome
@@ -90,10 +91,6 @@ pub record Ran : Type 0 where
 
 abbrev pub counted : Ran → Ran
 counted r = record { outcome = r .outcome; steps = suc (r .steps); state = r .state }
-
-abbrev pub pickR : Bool → Ran → Ran → Ran
-pickR true x y = x
-pickR false x y = y
 
 abbrev pub stopped : State → Ran
 stopped (State.value c) = record { outcome = Outcome.value c; steps = 0; state = State.value c }
@@ -106,7 +103,7 @@ abbrev pub onward : State → Move → (State → Ran) → Ran
 onward s stuck f = stopped s
 onward s (Move.goes r t) f =
     let q = f t in
-    pickR (within t) (counted q) (record { outcome = Full; steps = 0; state = s })
+    pick (withinLimits t) (counted q) (record { outcome = Full; steps = 0; state = s })
 
 unfoldable pub runOf : Program → ℕ → State → Ran
 runOf P zero s = stopped s

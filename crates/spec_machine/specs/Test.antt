@@ -9,10 +9,10 @@ use Rattle.records.specs.declared.Found.{Found}
 use Rattle.records.specs.declared.Found.the-variants.{At, Nothing}
 use Rattle.spec_language.specs.Flow.{leaves, missing, lacks}
 use Rattle.spec_machine.specs.Values.{Ty, tInt, tBool, Value, nothing, int, truth, typeV}
-use Rattle.spec_machine.specs.Program.{Head, op, fn, Ref, Program, owns, typeN, varTypes, varType, wants, gives}
+use Rattle.spec_machine.specs.Program.{Operation, op, fn, Ref, Program, owns, typeN, varTypes, typeOfVar, wants, gives}
 use Rattle.spec_machine.specs.Machine.{Frame, gather, and, wait, branch, check, Control, val, eval, exec, Saved, saved, State, exception, main, returned, running}
 use Rattle.spec_machine.specs.Fit.{isExpr, isConst, isStmt, owned, held, comes, comesFrom}
-use Rattle.spec_machine.specs.Run.{within}
+use Rattle.spec_machine.specs.Run.{withinLimits}
 
 -- equal types, in order
 abbrev pub areTy : List Ty → List Ty → Bool
@@ -46,23 +46,23 @@ exprsIn P f (n ∷ ns) = exprIn P f n && exprsIn P f ns
 abbrev pub hasVar : Program → ℕ → ℕ → Bool
 hasVar P f x = ltb x (length (varTypes (P .fun f)))
 
-abbrev pub known : Program → ℕ → Bool
-known P f = ltb f (P .funs)
+abbrev pub hasFunction : Program → ℕ → Bool
+hasFunction P f = ltb f (P .funs)
 
-abbrev pub knownHead : Program → Head → Bool
-knownHead P (op o) = ltb o 16
-knownHead P (fn g) = known P g
+abbrev pub knownOperation : Program → Operation → Bool
+knownOperation P (op o) = ltb o 16
+knownOperation P (fn g) = hasFunction P g
 
-abbrev pub hold : Value → Ty → Bool
-hold nothing t = true
-hold (int n) t = eqb tInt t
-hold (truth b) t = eqb tBool t
+abbrev pub holdsTyped : Value → Ty → Bool
+holdsTyped nothing t = true
+holdsTyped (int n) t = eqb tInt t
+holdsTyped (truth b) t = eqb tBool t
 
-abbrev pub holds : List Value → List Ty → Bool
-holds [] [] = true
-holds [] (t ∷ ts) = false
-holds (v ∷ vs) [] = false
-holds (v ∷ vs) (t ∷ ts) = hold v t && holds vs ts
+abbrev pub allHoldTyped : List Value → List Ty → Bool
+allHoldTyped [] [] = true
+allHoldTyped [] (t ∷ ts) = false
+allHoldTyped (v ∷ vs) [] = false
+allHoldTyped (v ∷ vs) (t ∷ ts) = holdsTyped v t && allHoldTyped vs ts
 
 abbrev pub takesNone : Program → ℕ → List Frame → Bool
 takesNone P f [] = true
@@ -77,19 +77,19 @@ takesNone P f (Frame.discard ∷ K) = false
 
 abbrev pub takes : Program → ℕ → Ty → List Frame → Bool
 takes P f t [] = false
-takes P f t (gather h vs ns ∷ K) = areTy (wants P h) (map typeV vs ++ (t ∷ map (typeN P f) ns)) && (exprsIn P f ns && (takes P f (gives P h) K && knownHead P h))
+takes P f t (gather h vs ns ∷ K) = areTy (wants P h) (map typeV vs ++ (t ∷ map (typeN P f) ns)) && (exprsIn P f ns && (takes P f (gives P h) K && knownOperation P h))
 takes P f t (and n ∷ K) = eqb t tBool && (exprIn P f n && (eqb (typeN P f n) tBool && takes P f tBool K))
 takes P f t (wait r ∷ K) = false
-takes P f t (Frame.store x ∷ K) = eqb t (varType (P .fun f) x) && (hasVar P f x && takesNone P f K)
+takes P f t (Frame.store x ∷ K) = eqb t (typeOfVar (P .fun f) x) && (hasVar P f x && takesNone P f K)
 takes P f t (branch a b ∷ K) = eqb t tBool && (stmtIn P f a && (stmtIn P f b && takesNone P f K))
 takes P f t (Frame.leave ∷ K) = eqb t (P .fun f .result) && takesNone P f K
 takes P f t (check ∷ K) = eqb t tBool && takesNone P f K
 takes P f t (Frame.discard ∷ K) = takesNone P f K
 
-abbrev pub given : Program → ℕ → Control → List Frame → Bool
-given P f (val v) K = takes P f (typeV v) K
-given P f (eval n) K = exprIn P f n && (not (isConst (P .look f n)) && takes P f (typeN P f n) K)
-given P f (exec r) K = stmtIn P f r && takesNone P f K
+abbrev pub controlOver : Program → ℕ → Control → List Frame → Bool
+controlOver P f (val v) K = takes P f (typeV v) K
+controlOver P f (eval n) K = exprIn P f n && (not (isConst (P .look f n)) && takes P f (typeN P f n) K)
+controlOver P f (exec r) K = stmtIn P f r && takesNone P f K
 
 abbrev pub readsNodes : Program → ℕ → List ℕ → Set → Bool
 readsNodes P f [] d = true
@@ -114,52 +114,52 @@ flowsFrom P f (exec r) K d = ok P f r d && flows P f K (leaves (P .stmt f r) d)
 abbrev pub callers : Program → ℕ → List Saved → Bool
 callers P f [] = eqb f 0
 callers P f (saved g θ L ∷ A) =
-    holds θ (varTypes (P .fun g)) && (takes P g (P .fun f .result) L && (flows P g L (held θ) && (comes P g L && (callers P g A && known P g))))
+    allHoldTyped θ (varTypes (P .fun g)) && (takes P g (P .fun f .result) L && (flows P g L (held θ) && (comes P g L && (callers P g A && hasFunction P g))))
 
 -- every int is a word of 32 bits
-abbrev pub word : Value → Bool
-word nothing = true
-word (int n) = ltb n (2 ^ 32)
-word (truth b) = true
+abbrev pub isWord : Value → Bool
+isWord nothing = true
+isWord (int n) = ltb n (2 ^ 32)
+isWord (truth b) = true
 
-abbrev pub words : List Value → Bool
-words [] = true
-words (v ∷ vs) = word v && words vs
+abbrev pub allWords : List Value → Bool
+allWords [] = true
+allWords (v ∷ vs) = isWord v && allWords vs
 
-abbrev pub frameWords : List Frame → Bool
-frameWords [] = true
-frameWords (gather h vs ns ∷ K) = words vs && frameWords K
-frameWords (and n ∷ K) = frameWords K
-frameWords (wait r ∷ K) = frameWords K
-frameWords (Frame.store x ∷ K) = frameWords K
-frameWords (branch a b ∷ K) = frameWords K
-frameWords (Frame.leave ∷ K) = frameWords K
-frameWords (check ∷ K) = frameWords K
-frameWords (Frame.discard ∷ K) = frameWords K
+abbrev pub framesInWords : List Frame → Bool
+framesInWords [] = true
+framesInWords (gather h vs ns ∷ K) = allWords vs && framesInWords K
+framesInWords (and n ∷ K) = framesInWords K
+framesInWords (wait r ∷ K) = framesInWords K
+framesInWords (Frame.store x ∷ K) = framesInWords K
+framesInWords (branch a b ∷ K) = framesInWords K
+framesInWords (Frame.leave ∷ K) = framesInWords K
+framesInWords (check ∷ K) = framesInWords K
+framesInWords (Frame.discard ∷ K) = framesInWords K
 
-abbrev pub controlWord : Control → Bool
-controlWord (val v) = word v
-controlWord (eval n) = true
-controlWord (exec r) = true
+abbrev pub controlInWord : Control → Bool
+controlInWord (val v) = isWord v
+controlInWord (eval n) = true
+controlInWord (exec r) = true
 
-abbrev pub savedWords : List Saved → Bool
-savedWords [] = true
-savedWords (saved g θ L ∷ A) = words θ && (frameWords L && savedWords A)
+abbrev pub savedInWords : List Saved → Bool
+savedInWords [] = true
+savedInWords (saved g θ L ∷ A) = allWords θ && (framesInWords L && savedInWords A)
 
 abbrev pub inWords : State → Bool
 inWords (State.value c) = ltb c (2 ^ 32)
 inWords (exception x) = true
 inWords (main α) = true
 inWords (returned α c) = ltb c (2 ^ 32)
-inWords (running c α f η K A) = controlWord c && (words η && (frameWords K && savedWords A))
+inWords (running c α f η K A) = controlInWord c && (allWords η && (framesInWords K && savedInWords A))
 
 abbrev pub proper : Program → State → Bool
 proper P (State.value c) = true
 proper P (exception x) = true
 proper P (main α) = true
 proper P (returned α c) = true
-proper P (running c α f η K A) = callers P f A && (known P f && (holds η (varTypes (P .fun f)) && (given P f c K && (flowsFrom P f c K (held η) && comesFrom P f c K))))
+proper P (running c α f η K A) = callers P f A && (hasFunction P f && (allHoldTyped η (varTypes (P .fun f)) && (controlOver P f c K && (flowsFrom P f c K (held η) && comesFrom P f c K))))
 
 -- the state is fit
 abbrev pub fit : Program → State → Bool
-fit P s = inWords s && (within s && proper P s)
+fit P s = inWords s && (withinLimits s && proper P s)

@@ -32,11 +32,11 @@ typeV (int n) = tInt
 typeV (truth b) = tBool
 
 -- the value that an operator's result is, none where it raises arith
-abbrev pub given : Applied → Option Value
-given (Int n) = some (int n)
-given (Truth b) = some (truth b)
-given Arith = none
+abbrev pub resultValue : Applied → Option Value
+resultValue (Int n) = some (int n)
+resultValue (Truth b) = some (truth b)
+resultValue Arith = none
 
 -- the result of operator o in an edition
 unfoldable pub result : ℕ → ℕ → ℕ → ℕ → Option Value
-result edition o a b = given (applied edition o a b)
+result edition o a b = resultValue (applied edition o a b)

@@ -7,7 +7,7 @@ use lib.ListN.{length, getD, drop, set, replicate, length-append, length-replica
 use Rattle.records.specs.Children.{walk}
 use Rattle.spec_machine.specs.File.{backwards}
 use Rattle.spec_machine.specs.Values.{Value}
-use Rattle.spec_machine.specs.Program.{Head}
+use Rattle.spec_machine.specs.Program.{Operation}
 use Rattle.spec_machine.specs.Machine.{Frame, gather, Saved}
 use Rattle.spec_image.specs.Image.{savedFrames}
 use Rattle.spec_image.specs.Core.{core}
@@ -19,13 +19,13 @@ set-last zero c done = refl
 set-last (suc j) c done = ap (λ (l : List ℕ). 0 ∷ l) (set-last j c done)
 
 -- what is stored so far: j nodes are not yet, of which the last is at c; then the one at c is the first
-pub record Stored (size : ℕ → ℕ) (k last : ℕ) (f : ℕ) (η : List Value) (h : Head) (K : List Frame) (A : List Saved) (R m : List ℕ) (j c : ℕ) : Type 0 where
+pub record Stored (size : ℕ → ℕ) (k last : ℕ) (f : ℕ) (η : List Value) (h : Operation) (K : List Frame) (A : List Saved) (R m : List ℕ) (j c : ℕ) : Type 0 where
   pub done : List ℕ
   pub held : m ≡ core f η (gather h [] (replicate j 0 ++ done) ∷ K) A ++ R
   pub rest : backwards (walk size k last) [] ≡ backwards (walk size (suc j) c) done
   pub few : j + length done ≤ 7
 
-module _ (size : ℕ → ℕ) (k last f : ℕ) (η : List Value) (h : Head) (K : List Frame) (A : List Saved) (R : List ℕ) where
+module _ (size : ℕ → ℕ) (k last f : ℕ) (η : List Value) (h : Operation) (K : List Frame) (A : List Saved) (R : List ℕ) where
   -- nothing
   pub stored-none : (m : List ℕ) (j : ℕ) → j ≡ k - 1 → 1 ≤ k → k ≤ 8 → m ≡ core f η (gather h [] (replicate j 0) ∷ K) A ++ R → Stored size k last f η h K A R m j last
   stored-none m j d lo hi e =

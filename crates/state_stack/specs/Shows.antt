@@ -5,13 +5,13 @@ use Prim.Native.Nat.{ℕ}
 use lib.ListN.{length}
 use Rattle.spec_image.specs.Decode.{refOf}
 use Rattle.spec_machine.specs.Values.{Value}
-use Rattle.spec_machine.specs.Program.{Head, op, fn}
+use Rattle.spec_machine.specs.Program.{Operation, op, fn}
 use Rattle.spec_machine.specs.Machine.{Frame, gather, and, wait, branch, check}
 use Rattle.state_stack.specs.declared.top.Top.{Top}
 use Rattle.state_stack.specs.declared.top.Top.the-variants.{Operator, Call, And, Wait, Store, Branch, Leave, Assert, Discard}
 
 -- a frame of what gathers, with so many values and so many nodes waiting
-pub record Gathers (fr : Frame) (h : Head) (y z : ℕ) : Type 0 where
+pub record Gathers (fr : Frame) (h : Operation) (y z : ℕ) : Type 0 where
   pub values : List Value
   pub nodes : List ℕ
   pub is : fr ≡ gather h values nodes

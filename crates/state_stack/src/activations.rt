@@ -5,7 +5,7 @@ ghost use Prim.Native.Nat.{ℕ, suc, _+_, _*_, _≤_, _<_};
 ghost use lib.ListN.{length, set, replicate};
 ghost use Rattle.words.specs.Blocks.{puts};
 ghost use Rattle.spec_machine.specs.Values.{Value, nothing};
-ghost use Rattle.spec_machine.specs.Program.{Head};
+ghost use Rattle.spec_machine.specs.Program.{Operation};
 ghost use Rattle.spec_machine.specs.Machine.{Frame, gather, Saved, saved};
 ghost use Rattle.spec_image.specs.Image.{savedFrames};
 ghost use Rattle.spec_image.specs.Core.{core};
@@ -66,7 +66,7 @@ pub fn enter(
     v: state_words::Value,
 )
     requires { ⌜ (16384 ≤ length (now m)) × (n < 512) × (a + 1 < 32) × (y ≤ 7) ⌝ }
-    ensures { λ _. ⌜ ((f : ℕ) (η : List Value) (h : Head) (vs : List Value) (l : ℕ) (K : List Frame) (A : List Saved) (R : List ℕ) → now (m .entry) ≡ core f η (gather h vs [] ∷ K) A ++ R → a ≡ length A → n ≡ length (K ++ savedFrames A) → k ≡ length K → y ≡ length vs → c ≤ 64 → c ≡ length vs + suc l → now (m .exit) ≡ core g ((vs ++ (valueIs v ∷ [])) ++ replicate l nothing) [] (saved f η K ∷ A) ++ R) ⌝ }
+    ensures { λ _. ⌜ ((f : ℕ) (η : List Value) (h : Operation) (vs : List Value) (l : ℕ) (K : List Frame) (A : List Saved) (R : List ℕ) → now (m .entry) ≡ core f η (gather h vs [] ∷ K) A ++ R → a ≡ length A → n ≡ length (K ++ savedFrames A) → k ≡ length K → y ≡ length vs → c ≤ 64 → c ≡ length vs + suc l → now (m .exit) ≡ core g ((vs ++ (valueIs v ∷ [])) ++ replicate l nothing) [] (saved f η K ∷ A) ++ R) ⌝ }
 {
     open(m, a, k, g, c);
     words::copy_down(m, 4480 + n * 20 + 4, 128 + (a + 1) * 136 + 8, y * 2);

@@ -4,7 +4,7 @@ ghost use mathlib.Core.List.{List, [], _∷_, _++_};
 ghost use Prim.Native.Nat.{ℕ, _+_, _≤_, _<_};
 ghost use lib.ListN.{length, replicate};
 ghost use Rattle.spec_machine.specs.Values.{Value, nothing};
-ghost use Rattle.spec_machine.specs.Machine.{Ambient, Control, Frame, Saved, running};
+ghost use Rattle.spec_machine.specs.Machine.{RunEnv, Control, Frame, Saved, running};
 ghost use Rattle.spec_image.specs.Layout.{controlWords};
 ghost use Rattle.spec_image.specs.Image.{image};
 ghost use Rattle.spec_image.specs.Core.{core};
@@ -29,7 +29,7 @@ pub fn leave_main(m: &mut [u32], j: usize)
 // Stores the head over a core: a callers, the number of frames, and the control's two words.
 pub fn store_head(m: &mut [u32], a: usize, callers: u32, frames: u32, form: u32, word: u32)
     requires { ⌜ (16384 ≤ length (now m)) × (a < 32) × (callers ≡ a) ⌝ }
-    ensures { λ _. ⌜ ((c : Control) (α : Ambient) (f : ℕ) (η : List Value) (K : List Frame) (A : List Saved) (R : List ℕ) → now (m .entry) ≡ core f η K A ++ R → a ≡ length A → frames ≡ length K → controlWords c ≡ form ∷ word ∷ [] → now (m .exit) ≡ image (running c α f η K A) ++ R) ⌝ }
+    ensures { λ _. ⌜ ((c : Control) (α : RunEnv) (f : ℕ) (η : List Value) (K : List Frame) (A : List Saved) (R : List ℕ) → now (m .entry) ≡ core f η K A ++ R → a ≡ length A → frames ≡ length K → controlWords c ≡ form ∷ word ∷ [] → now (m .exit) ≡ image (running c α f η K A) ++ R) ⌝ }
 {
     m[0] = 2;
     m[1] = 0;
@@ -42,7 +42,7 @@ pub fn store_head(m: &mut [u32], a: usize, callers: u32, frames: u32, form: u32,
 // Takes the head of a running state off, and leaves its core.
 pub fn clear_head(m: &mut [u32], a: usize)
     requires { ⌜ (16384 ≤ length (now m)) × (a < 32) ⌝ }
-    ensures { λ _. ⌜ ((c : Control) (α : Ambient) (f : ℕ) (η : List Value) (K : List Frame) (A : List Saved) (R : List ℕ) → now (m .entry) ≡ image (running c α f η K A) ++ R → a ≡ length A → now (m .exit) ≡ core f η K A ++ R) ⌝ }
+    ensures { λ _. ⌜ ((c : Control) (α : RunEnv) (f : ℕ) (η : List Value) (K : List Frame) (A : List Saved) (R : List ℕ) → now (m .entry) ≡ image (running c α f η K A) ++ R → a ≡ length A → now (m .exit) ≡ core f η K A ++ R) ⌝ }
 {
     m[0] = 0;
     m[1] = 0;

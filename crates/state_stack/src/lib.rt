@@ -8,7 +8,7 @@ ghost use mathlib.Core.List.{List, [], _∷_, _++_};
 ghost use Prim.Native.Nat.{ℕ, suc, _+_, _*_, _≤_, _<_};
 ghost use lib.ListN.{length, getD, set};
 ghost use Rattle.spec_machine.specs.Values.{Value, nothing};
-ghost use Rattle.spec_machine.specs.Program.{Head};
+ghost use Rattle.spec_machine.specs.Program.{Operation};
 ghost use Rattle.spec_machine.specs.Machine.{Frame, gather, Saved};
 ghost use Rattle.spec_image.specs.Layout.{filled, frameWords};
 ghost use Rattle.spec_image.specs.Image.{savedFrames};
@@ -50,7 +50,7 @@ pub fn set_variable(m: &mut [u32], a: usize, x: usize, v: state_words::Value)
 // Stores the value of the operand that follows y values, with z nodes waiting after it, in the top frame over n frames.
 pub fn gain(m: &mut [u32], n: usize, y: u32, z: u32, v: state_words::Value)
     requires { ⌜ (16384 ≤ length (now m)) × (n < 512) × (y < 8) ⌝ }
-    ensures { λ _. ⌜ ((f : ℕ) (η : List Value) (h : Head) (vs : List Value) (e : ℕ) (ns : List ℕ) (K : List Frame) (A : List Saved) (R : List ℕ) → now (m .entry) ≡ core f η (gather h vs (e ∷ ns) ∷ K) A ++ R → length A < 32 → n ≡ length (K ++ savedFrames A) → length vs + suc (length ns) ≤ 7 → y ≡ length vs → z ≡ length ns → now (m .exit) ≡ core f η (gather h (vs ++ (valueIs v ∷ [])) ns ∷ K) A ++ R) ⌝ }
+    ensures { λ _. ⌜ ((f : ℕ) (η : List Value) (h : Operation) (vs : List Value) (e : ℕ) (ns : List ℕ) (K : List Frame) (A : List Saved) (R : List ℕ) → now (m .entry) ≡ core f η (gather h vs (e ∷ ns) ∷ K) A ++ R → length A < 32 → n ≡ length (K ++ savedFrames A) → length vs + suc (length ns) ≤ 7 → y ≡ length vs → z ≡ length ns → now (m .exit) ≡ core f η (gather h (vs ++ (valueIs v ∷ [])) ns ∷ K) A ++ R) ⌝ }
 {
     state_words::frames::put_slot(m, n, y as usize, v);
     let at = 4480 + n * 20;

@@ -7,7 +7,7 @@ ghost use lib.ListN.{length, replicate};
 ghost use Rattle.records.specs.Fields.{sizeAt};
 ghost use Rattle.records.specs.Children.{walk};
 ghost use Rattle.spec_machine.specs.Values.{Value};
-ghost use Rattle.spec_machine.specs.Program.{Head};
+ghost use Rattle.spec_machine.specs.Program.{Operation};
 ghost use Rattle.spec_machine.specs.Machine.{Frame, gather, Saved};
 ghost use Rattle.spec_machine.specs.File.{backwards};
 ghost use Rattle.spec_image.specs.Layout.{filled, frameWords};
@@ -61,7 +61,7 @@ pub fn push_gather(
     last: usize,
 ) -> usize
     requires { ⌜ (16384 ≤ length (now m)) × (n < 512) × (1 ≤ k) × (k ≤ 8) × (12 * last + 12 ≤ length (now part)) × (last < 4096) ⌝ }
-    ensures { λ r. ⌜ (r ≤ last) × ((f : ℕ) (η : List Value) (h : Head) (e : ℕ) (ns : List ℕ) (K : List Frame) (A : List Saved) (R : List ℕ) → now (m .entry) ≡ core f η K A ++ R → length A < 32 → n ≡ length (K ++ savedFrames A) → ((z : ℕ) → z ≤ 7 → frameWords (gather h [] (replicate z 0)) ≡ filled 20 (kind ∷ x ∷ 0 ∷ z ∷ [])) → backwards (walk (sizeAt (now (part .entry))) k last) [] ≡ e ∷ ns → (r ≡ e) × (now (m .exit) ≡ core f η (gather h [] ns ∷ K) A ++ R)) ⌝ }
+    ensures { λ r. ⌜ (r ≤ last) × ((f : ℕ) (η : List Value) (h : Operation) (e : ℕ) (ns : List ℕ) (K : List Frame) (A : List Saved) (R : List ℕ) → now (m .entry) ≡ core f η K A ++ R → length A < 32 → n ≡ length (K ++ savedFrames A) → ((z : ℕ) → z ≤ 7 → frameWords (gather h [] (replicate z 0)) ≡ filled 20 (kind ∷ x ∷ 0 ∷ z ∷ [])) → backwards (walk (sizeAt (now (part .entry))) k last) [] ≡ e ∷ ns → (r ≡ e) × (now (m .exit) ≡ core f η (gather h [] ns ∷ K) A ++ R)) ⌝ }
 {
     state_words::frames::put_frame(m, n, kind, x, 0, k - 1);
     let mut j = k as usize - 1;

@@ -1,7 +1,7 @@
 use mir.Syntax.{w32, w64}
 use mir.ValLaws.{toZ-ofZ}
 use Rattle.arith.proofs.Casts.{low-cast, minus-all, sfits-64}
-use Rattle.arith.proofs.Words.{int-fits}
+use Rattle.arith.proofs.WordInts.{int-fits}
 use borrow.Author.Needs.{needs}
 use Rattle.arith.proofs.signed.Statement.{statement}
 use Rattle.arith.proofs.signed.Tie as tie

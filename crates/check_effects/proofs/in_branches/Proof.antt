@@ -1,5 +1,5 @@
 use mathlib.Core.Path.{_∙_}
-use Rattle.check_effects.proofs.Parts.{branches-means}
+use Rattle.check_effects.proofs.EffectParts.{branches-means}
 use borrow.Author.Needs.{needs}
 use Rattle.check_effects.proofs.in_branches.Statement.{statement}
 use Rattle.check_effects.proofs.in_branches.Tie as tie

@@ -1,5 +1,5 @@
 use native.Mathlib.Omega.{arith}
-use Rattle.check_effects.proofs.Parts.{loop-means}
+use Rattle.check_effects.proofs.EffectParts.{loop-means}
 use borrow.Author.Needs.{needs}
 use Rattle.check_effects.proofs.in_loop.Statement.{statement}
 use Rattle.check_effects.proofs.in_loop.Tie as tie

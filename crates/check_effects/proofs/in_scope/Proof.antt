@@ -1,6 +1,6 @@
 use mathlib.Core.Path.{sym, _∙_}
 use borrow.Author.Tests.{not-true}
-use Rattle.check_effects.proofs.Parts.{scope-means}
+use Rattle.check_effects.proofs.EffectParts.{scope-means}
 use borrow.Author.Needs.{needs}
 use Rattle.check_effects.proofs.in_scope.Statement.{statement}
 use Rattle.check_effects.proofs.in_scope.Tie as tie

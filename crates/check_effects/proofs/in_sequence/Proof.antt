@@ -1,5 +1,5 @@
 use mathlib.Core.Path.{sym, _∙_}
-use Rattle.check_effects.proofs.Parts.{sequence-means}
+use Rattle.check_effects.proofs.EffectParts.{sequence-means}
 use borrow.Author.Needs.{needs}
 use Rattle.check_effects.proofs.in_sequence.Statement.{statement}
 use Rattle.check_effects.proofs.in_sequence.Tie as tie

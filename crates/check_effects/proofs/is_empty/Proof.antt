@@ -1,4 +1,4 @@
-use Rattle.check_effects.proofs.Parts.{empty-word}
+use Rattle.check_effects.proofs.EffectParts.{empty-word}
 use Rattle.check_effects.proofs.is_empty.Statement.{statement}
 use Rattle.check_effects.proofs.is_empty.Tie as tie
 

@@ -1,8 +1,8 @@
-use Rattle.check_file.proofs.Places.{placed-lacks}
+use Rattle.check_file.proofs.FoundPlaces.{placed-lacks}
 use Rattle.check_shape.specs.Failing.{fails}
 use Rattle.spec_language.specs.Nodes.{answers}
 use native.Mathlib.Omega.{arith}
-use Rattle.check_file.proofs.Places.{head-inside, placed-first, placed-undeclared, placed-unless, placed-none, past-fourteen}
+use Rattle.check_file.proofs.FoundPlaces.{head-inside, placed-first, placed-undeclared, placed-unless, placed-none, past-fourteen}
 use borrow.Author.Needs.{needs}
 use Rattle.check_file.proofs.answer_in.Statement.{statement}
 use Rattle.check_file.proofs.answer_in.Tie as tie

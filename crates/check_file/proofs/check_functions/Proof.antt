@@ -1,5 +1,5 @@
 use borrow.Author.Tests.{not-true, not-false}
-use Rattle.check_file.proofs.Places.{placed-first}
+use Rattle.check_file.proofs.FoundPlaces.{placed-first}
 use Rattle.check_file.specs.Answers.{says}
 use mathlib.Core.Path.{sym, _∙_}
 use native.Mathlib.Omega.{arith}

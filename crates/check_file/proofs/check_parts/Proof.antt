@@ -1,14 +1,14 @@
 use Prim.Native.Nat.{_-_, _≤_}
 use mathlib.Core.Path.{_≡_, refl, sym, _∙_}
 use borrow.Author.Needs.{needs}
-use Rattle.spec_language.specs.Check.{put, partQuestions}
+use Rattle.spec_language.specs.Check.{firstRefusal, partQuestions}
 use Rattle.check_file.proofs.Rounds.{Passed, ready, none-passed, more-passed, round-found, round-on, round-end}
 use Rattle.check_file.specs.Answers.{says}
 use Rattle.check_file.proofs.check_parts.Statement.{statement}
 use Rattle.check_file.proofs.check_parts.Tie as tie
 
 abbrev Inv-loop : tie.InvT-loop
-Inv-loop file q₀ q = (7 ≤ q) × (q ≤ 15) × (put (partQuestions file 8 7) ≡ put (partQuestions file (15 - q) q)) × Passed file q
+Inv-loop file q₀ q = (7 ≤ q) × (q ≤ 15) × (firstRefusal (partQuestions file 8 7) ≡ firstRefusal (partQuestions file (15 - q) q)) × Passed file q
 
 abbrev μ-loop : tie.MeasureT-loop
 μ-loop file q₀ q = 15 - q

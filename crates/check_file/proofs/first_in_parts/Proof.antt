@@ -1,7 +1,7 @@
 use Prim.Native.Nat.{ℕ}
 use Rattle.check_file.proofs.Walk.{asks, found, placed, shift-placed}
 use Rattle.check_file.proofs.Passing.{part-room}
-use Rattle.records.proofs.Parts.{start-first, start-next, scan-found, scan-on, scan-end}
+use Rattle.records.proofs.PartWalks.{start-first, start-next, scan-found, scan-on, scan-end}
 use Rattle.spec_language.specs.Check.{inPart}
 use Rattle.records.specs.Search.{firstIn}
 use Rattle.records.specs.Parts.{startOf}

@@ -1,5 +1,5 @@
 use Rattle.check_file.proofs.Passing.{Cleared, cleared-none, cleared-next, cleared-all, part-room, part-within, part-asks}
-use Rattle.records.proofs.Parts.{start-first, start-next}
+use Rattle.records.proofs.PartWalks.{start-first, start-next}
 use Rattle.records.specs.Parts.{startOf}
 use mathlib.Core.Bool.{false≢true}
 use mathlib.Core.Path.{_≡_, refl, _∙_}

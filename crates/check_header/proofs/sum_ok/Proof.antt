@@ -1,6 +1,6 @@
 use native.Mathlib.Omega.{arith}
 use borrow.Author.Needs.{needs}
-use Rattle.records.proofs.Parts.{sum-on}
+use Rattle.records.proofs.PartWalks.{sum-on}
 use Prim.Native.Nat.{_+_, _*_, _-_, _≤_}
 use mathlib.Core.Path.{_≡_, refl}
 use Rattle.records.specs.Parts.{sumOf}

@@ -1,5 +1,5 @@
 use Rattle.check_pass.proofs.Calls.{Left, left-first, left-next, call-judged}
-use Rattle.check_types.proofs.Tables.{laid-at}
+use Rattle.check_types.proofs.TypeTables.{laid-at}
 use mathlib.Core.Path.{_∙_}
 use Prim.Native.Nat.{_<_}
 use borrow.Author.Needs.{needs}

@@ -3,7 +3,7 @@ use mathlib.Core.Path.{_≡_, _∙_}
 use borrow.Author.Needs.{needs}
 use Rattle.varset.specs.Lowest.{lowest}
 use Rattle.records.proofs.Loops.{lowest-le}
-use Rattle.check_sorts.proofs.Places.{seen, body-seen, parent-step, seen-at, seen-none}
+use Rattle.check_sorts.proofs.LowestMisplaced.{seen, body-seen, parent-step, seen-at, seen-none}
 use Rattle.check_sorts.proofs.first_misplaced.Statement.{statement}
 use Rattle.check_sorts.proofs.first_misplaced.Tie as tie
 

@@ -5,7 +5,7 @@ use Rattle.varset.specs.Lowest.{lowest}
 use Rattle.records.specs.Fields.{kindAt, sizeAt}
 use Rattle.records.specs.Children.{walk, children}
 use Rattle.spec_language.specs.Nodes.{wrongChild}
-use Rattle.check_sorts.proofs.Places.{child-step, child-end, pick-le}
+use Rattle.check_sorts.proofs.LowestMisplaced.{child-step, child-end, pick-le}
 use Rattle.check_sorts.proofs.lowest_wrong.Statement.{statement}
 use Rattle.check_sorts.proofs.lowest_wrong.Tie as tie
 

@@ -6,7 +6,7 @@ use Rattle.spec_language.specs.Types.{wantAt, agree}
 use Rattle.records.specs.Children.{arityAt, walk, children}
 use Rattle.records.specs.Fields.{sizeAt}
 use Rattle.check_types.proofs.Agree.{agree-not, agree-on, agree-all}
-use Rattle.check_types.proofs.Tables.{argument-few}
+use Rattle.check_types.proofs.TypeTables.{argument-few}
 use Rattle.check_types.proofs.children_agree.Statement.{statement}
 use Rattle.check_types.proofs.children_agree.Tie as tie
 

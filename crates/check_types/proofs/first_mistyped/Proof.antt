@@ -6,12 +6,12 @@ use borrow.Author.Needs.{needs}
 use Rattle.spec_language.specs.Nodes.{mistyped}
 use Rattle.records.proofs.Loops.{Below, first-at, first-none}
 use Rattle.check_types.proofs.Agree.{mistyped-is, typed-more}
-use Rattle.check_types.specs.Types.{Typed}
+use Rattle.check_types.specs.Types.{NodesTyped}
 use Rattle.check_types.proofs.first_mistyped.Statement.{statement}
 use Rattle.check_types.proofs.first_mistyped.Tie as tie
 
 abbrev Inv-loop : tie.InvT-loop
-Inv-loop file f part n decls types₀ i₀ types i = (i ≤ n) × Below (mistyped file f part n) i × Typed file f part n i types × (length types ≡ 4096)
+Inv-loop file f part n decls types₀ i₀ types i = (i ≤ n) × Below (mistyped file f part n) i × NodesTyped file f part n i types × (length types ≡ 4096)
 
 abbrev μ-loop : tie.MeasureT-loop
 μ-loop file f part n decls types₀ i₀ types i = n - i

@@ -2,7 +2,7 @@ use mathlib.Core.Path.{refl, sym, _∙_}
 use borrow.Author.Needs.{needs}
 use Rattle.spec_language.specs.Types.{typesOf, typeAt}
 use Rattle.spec_language.specs.Scopes.{usesVariable}
-use Rattle.check_types.proofs.Tables.{type-rest, laid-at, var-known}
+use Rattle.check_types.proofs.TypeTables.{type-rest, laid-at, var-known}
 use Rattle.check_types.proofs.type_of.Statement.{statement}
 use Rattle.check_types.proofs.type_of.Tie as tie
 

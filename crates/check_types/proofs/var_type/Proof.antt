@@ -1,7 +1,7 @@
 use mathlib.Core.Path.{refl, _∙_}
 use borrow.Author.Needs.{needs}
 use Rattle.check_scopes.proofs.Decls.{decl-fits}
-use Rattle.check_types.proofs.Tables.{var-param, var-decl}
+use Rattle.check_types.proofs.TypeTables.{var-param, var-decl}
 use Rattle.check_types.proofs.var_type.Statement.{statement}
 use Rattle.check_types.proofs.var_type.Tie as tie
 

@@ -2,7 +2,7 @@ use mathlib.Core.Path.{refl, sym, _∙_}
 use borrow.Author.Needs.{needs}
 use Rattle.spec_language.specs.Types.{wantsOf, wantAt}
 use Rattle.spec_language.specs.Scopes.{usesVariable}
-use Rattle.check_types.proofs.Tables.{want-rest, laid-at, var-known}
+use Rattle.check_types.proofs.TypeTables.{want-rest, laid-at, var-known}
 use Rattle.check_types.proofs.want_of.Statement.{statement}
 use Rattle.check_types.proofs.want_of.Tie as tie
 

@@ -5,7 +5,7 @@ use borrow.Author.Count.{below-none, below-more}
 use borrow.Author.Needs.{needs}
 use Rattle.records.specs.Parts.{startOf}
 use Rattle.records.proofs.Loops.{Below}
-use Rattle.records.proofs.Parts.{start-first, start-next}
+use Rattle.records.proofs.PartWalks.{start-first, start-next}
 use Rattle.desk_places.proofs.Holding.{Ends, held, passed, held-none}
 use Rattle.desk_places.proofs.locate_node.Statement.{statement}
 use Rattle.desk_places.proofs.locate_node.Tie as tie

@@ -1,7 +1,7 @@
 use mathlib.Core.Path.{refl}
 use native.Mathlib.Omega.{arith}
 use borrow.Author.Needs.{needs}
-use Rattle.desk_places.proofs.Parts.{no-function, no-room, past-functions, lies}
+use Rattle.desk_places.proofs.PartExtents.{no-function, no-room, past-functions, lies}
 use Rattle.desk_places.proofs.part_extent.Statement.{statement}
 use Rattle.desk_places.proofs.part_extent.Tie as tie
 

@@ -3,7 +3,7 @@ use Prim.Native.Nat.{_+_, _*_, _-_, _≤_}
 use native.Mathlib.Omega.{arith}
 use borrow.Author.Needs.{needs}
 use Rattle.records.specs.Parts.{startOf}
-use Rattle.records.proofs.Parts.{start-first, start-next}
+use Rattle.records.proofs.PartWalks.{start-first, start-next}
 use Rattle.desk_places.proofs.start_of.Statement.{statement}
 use Rattle.desk_places.proofs.start_of.Tie as tie
 

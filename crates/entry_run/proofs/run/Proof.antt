@@ -5,19 +5,15 @@ use borrow.Author.Needs.{needs}
 use Rattle.entry_run.proofs.run.Statement.{statement}
 use Rattle.entry_run.proofs.run.Tie as tie
 
--- src/lib.rt:28:9
 check-memory-requires : tie.Need-check-memory-requires
 check-memory-requires c κs = search needs
 
--- src/lib.rt:25:9
 enum-known-question : tie.Need-enum-known-question
 enum-known-question c = search needs
 
--- src/lib.rt:29:9
 same-length : tie.Need-same-length
 same-length c = search needs
 
--- src/lib.rt:29:9
 returns : tie.Need-returns
 unfolding says
 returns c =
@@ -27,16 +23,13 @@ returns c =
 enum-told : tie.Need-enum-told
 enum-told c = search needs
 
--- src/lib.rt:35:18
 run-requires : tie.Need-run-requires
 unfolding says
 run-requires c κs = let e = sym (c .before .before .before .check-memory .ensures .0) ∙ ap says (c .before .enum-told .given .1) in (run-held _ _ 0 e, run-room _ _ 0 e)
 
--- src/lib.rt:20:1
 same-length-2 : tie.Need-same-length-2
 same-length-2 c = search needs
 
--- src/lib.rt:20:1
 returns-2 : tie.Need-returns-2
 unfolding says
 returns-2 c =

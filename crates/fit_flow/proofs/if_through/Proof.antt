@@ -1,38 +1,31 @@
 use Rattle.fit_flow.proofs.Passing.{held-is}
 use Rattle.fit_table.proofs.Looking.{row-room, condition-row}
 use Rattle.fit_flow.proofs.Trees.{loop-if}
-use Rattle.fit_nodes.proofs.Parts.{inside, loop-above}
+use Rattle.fit_nodes.proofs.AcceptedParts.{inside, loop-above}
 use native.Mathlib.Omega.{arith}
 use mathlib.Core.Path.{refl}
 use borrow.Author.Needs.{needs}
 use Rattle.fit_flow.proofs.if_through.Statement.{statement}
 use Rattle.fit_flow.proofs.if_through.Tie as tie
 
--- src/lib.rt:86:54
 sub-prior : tie.Need-sub-prior
 sub-prior c = loop-above (c .before .before .before .pre .0) ((c .before .before .before .pre .2), (c .before .before .before .pre .3))
 
--- src/lib.rt:86:42
 prior-requires : tie.Need-prior-requires
 prior-requires c κs = omega (arith, inside (c .before .before .before .pre .0), (c .before .before .before .pre .2))
 
--- src/lib.rt:86:26
 needs-at-requires : tie.Need-needs-at-requires
 needs-at-requires c κs = row-room (c .before .before .before .before .pre .0) (c .before .before .before .before .pre .1) (omega (arith, c .prior .ensures, (c .before .before .before .before .pre .2)))
 
--- src/lib.rt:86:9
 is-within-requires : tie.Need-is-within-requires
 is-within-requires c κs = search needs
 
--- src/lib.rt:87:9
 seq-through-requires : tie.Need-seq-through-requires
 seq-through-requires c κs = search needs
 
--- src/lib.rt:90:9
 meet-requires : tie.Need-meet-requires
 meet-requires c κs = search needs
 
--- src/lib.rt:74:1
 returns : tie.Need-returns
 returns c = let q = c .before .before .before .before .before .prior .ensures in
     let n = rw (← c .before .before .before .before .needs-at .ensures) at (condition-row (c .before .before .before .before .before .before .before .before .before .pre .0) (c .before .before .before .before .before .before .before .before .before .pre .1) (c .before .before .before .before .before .before .before .before .before .pre .2) (c .before .before .before .before .before .before .before .before .before .pre .3) q) in

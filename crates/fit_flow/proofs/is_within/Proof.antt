@@ -4,15 +4,12 @@ use borrow.Author.Needs.{needs}
 use Rattle.fit_flow.proofs.is_within.Statement.{statement}
 use Rattle.fit_flow.proofs.is_within.Tie as tie
 
--- src/lib.rt:29:19
 minus-requires : tie.Need-minus-requires
 minus-requires c κs = search needs
 
--- src/lib.rt:29:5
 is-none-requires : tie.Need-is-none-requires
 is-none-requires c κs = search needs
 
--- src/lib.rt:26:1
 returns : tie.Need-returns
 returns c = (λ e. within-is _ _ .0 (sym (c .before .minus .ensures) ∙ c .is-none .ensures .0 e), λ h. c .is-none .ensures .1 (c .before .minus .ensures ∙ within-is _ _ .1 h))
 

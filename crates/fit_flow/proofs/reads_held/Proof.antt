@@ -7,15 +7,12 @@ use borrow.Author.Needs.{needs}
 use Rattle.fit_flow.proofs.reads_held.Statement.{statement}
 use Rattle.fit_flow.proofs.reads_held.Tie as tie
 
--- src/lib.rt:147:15
 needs-at-requires : tie.Need-needs-at-requires
 needs-at-requires c κs = row-room (c .before .before .before .pre .0) (c .before .before .before .pre .1) (expression-inside (c .before .before .before .pre .0) _ (c .before .before .before .pre .2))
 
--- src/lib.rt:147:5
 is-within-requires : tie.Need-is-within-requires
 is-within-requires c κs = search needs
 
--- src/lib.rt:135:1
 returns : tie.Need-returns
 unfolding programOf
 returns c = let n = rw (← c .before .needs-at .ensures) at (expression-row (c .before .before .before .before .before .pre .0) (c .before .before .before .before .before .pre .1) _ (c .before .before .before .before .before .pre .2)) in

@@ -2,8 +2,8 @@ use Prim.Native.Nat.{_≤_}
 use mathlib.Core.Path.{_≡_, refl, sym, _∙_}
 use native.Mathlib.Omega.{arith}
 use borrow.Author.Tests.{not-true, not-false}
-use Rattle.fit_image.specs.Blocks.{activationOk}
-use Rattle.fit_image.specs.Words.{passing}
+use Rattle.fit_image.specs.BlockTests.{activationOk}
+use Rattle.fit_image.specs.MemoryTest.{passing}
 use Rattle.fit_image.proofs.Loops.{passing-more, passing-less, passing-end}
 use Rattle.fit_image.proofs.Rooms.{activations-less, activations-end}
 use borrow.Author.Needs.{needs}

@@ -1,5 +1,5 @@
-use Rattle.fit_image.specs.Blocks.{controlOk}
-use Rattle.fit_image.proofs.Tables.{no-form}
+use Rattle.fit_image.specs.BlockTests.{controlOk}
+use Rattle.fit_image.proofs.NoSuchTags.{no-form}
 use mathlib.Core.Path.{sym}
 use Rattle.fit_image.proofs.control_ok.Statement.{statement}
 use Rattle.fit_image.proofs.control_ok.Tie as tie

@@ -1,4 +1,4 @@
-use Rattle.fit_image.specs.Words.{headOk}
+use Rattle.fit_image.specs.MemoryTest.{headOk}
 use borrow.Author.Needs.{needs}
 use Rattle.fit_image.proofs.head_ok.Statement.{statement}
 use Rattle.fit_image.proofs.head_ok.Tie as tie

@@ -2,7 +2,7 @@ use Prim.Native.Nat.{_≤_, _*_, _-_}
 use mathlib.Core.Path.{_≡_, _∙_, sym}
 use native.Mathlib.Omega.{arith}
 use lib.ListN.{drop}
-use Rattle.fit_image.specs.Blocks.{nodesOk}
+use Rattle.fit_image.specs.BlockTests.{nodesOk}
 use Rattle.fit_image.proofs.Loops.{nodes-start, nodes-more, nodes-less, nodes-end}
 use borrow.Author.Needs.{needs}
 use Rattle.fit_image.proofs.nodes_ok.Statement.{statement}

@@ -1,5 +1,5 @@
-use Rattle.fit_image.specs.Words.{tagOk}
-use Rattle.fit_image.proofs.Tables.{no-tag}
+use Rattle.fit_image.specs.MemoryTest.{tagOk}
+use Rattle.fit_image.proofs.NoSuchTags.{no-tag}
 use mathlib.Core.Path.{sym}
 use borrow.Author.Needs.{needs}
 use Rattle.fit_image.proofs.tag_ok.Statement.{statement}

@@ -1,5 +1,5 @@
-use Rattle.fit_image.specs.Blocks.{valueOk}
-use Rattle.fit_image.proofs.Tables.{no-type}
+use Rattle.fit_image.specs.BlockTests.{valueOk}
+use Rattle.fit_image.proofs.NoSuchTags.{no-type}
 use mathlib.Core.Path.{sym}
 use Rattle.fit_image.proofs.value_ok.Statement.{statement}
 use Rattle.fit_image.proofs.value_ok.Tie as tie

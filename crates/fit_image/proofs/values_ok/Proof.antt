@@ -3,7 +3,7 @@ use mathlib.Core.Path.{_≡_, _∙_, sym}
 use native.Mathlib.Omega.{arith}
 use lib.ListN.{drop}
 use borrow.Author.Tests.{not-true, not-false}
-use Rattle.fit_image.specs.Blocks.{valuesOk}
+use Rattle.fit_image.specs.BlockTests.{valuesOk}
 use Rattle.fit_image.proofs.Loops.{values-start, values-more, values-less, values-end}
 use borrow.Author.Needs.{needs}
 use Rattle.fit_image.proofs.values_ok.Statement.{statement}

@@ -1,4 +1,4 @@
-use Rattle.fit_nodes.proofs.Parts.{inside, named}
+use Rattle.fit_nodes.proofs.AcceptedParts.{inside, named}
 use borrow.Author.Needs.{needs}
 use Rattle.fit_nodes.proofs.decls_of.Statement.{statement}
 use Rattle.fit_nodes.proofs.decls_of.Tie as tie

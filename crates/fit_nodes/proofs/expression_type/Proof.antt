@@ -1,5 +1,5 @@
 use mathlib.Core.Path.{_∙_}
-use Rattle.fit_nodes.proofs.Parts.{laid, inside, nodes, calls}
+use Rattle.fit_nodes.proofs.AcceptedParts.{laid, inside, nodes, calls}
 use Rattle.fit_nodes.proofs.Sorts.{expression-inside, own-type}
 use Rattle.fit_nodes.proofs.expression_type.Statement.{statement}
 use Rattle.fit_nodes.proofs.expression_type.Tie as tie

@@ -1,5 +1,5 @@
 use native.Mathlib.Omega.{arith}
-use Rattle.fit_nodes.proofs.Parts.{inside}
+use Rattle.fit_nodes.proofs.AcceptedParts.{inside}
 use Rattle.fit_nodes.proofs.Sorts.{expression-inside, own-constant}
 use Rattle.fit_nodes.proofs.is_constant.Statement.{statement}
 use Rattle.fit_nodes.proofs.is_constant.Tie as tie

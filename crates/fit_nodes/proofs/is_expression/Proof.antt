@@ -1,6 +1,6 @@
 use borrow.Author.Needs.{needs}
 use native.Mathlib.Omega.{arith}
-use Rattle.fit_nodes.proofs.Parts.{inside}
+use Rattle.fit_nodes.proofs.AcceptedParts.{inside}
 use Rattle.fit_nodes.proofs.Sorts.{not-own, own-expression}
 use Rattle.fit_nodes.proofs.is_expression.Statement.{statement}
 use Rattle.fit_nodes.proofs.is_expression.Tie as tie

@@ -1,5 +1,5 @@
 use mathlib.Core.Path.{_∙_}
-use Rattle.fit_nodes.proofs.Parts.{inside}
+use Rattle.fit_nodes.proofs.AcceptedParts.{inside}
 use Rattle.fit_nodes.proofs.Refs.{nop-is, node-is, if-is, seq-is}
 use borrow.Author.Needs.{needs}
 use Rattle.fit_nodes.proofs.is_statement.Statement.{statement}

@@ -1,5 +1,5 @@
 use mathlib.Core.Path.{_∙_}
-use Rattle.fit_nodes.proofs.Parts.{variable-asks}
+use Rattle.fit_nodes.proofs.AcceptedParts.{variable-asks}
 use Rattle.fit_nodes.proofs.Sorts.{variable-type}
 use Rattle.fit_nodes.proofs.variable_type.Statement.{statement}
 use Rattle.fit_nodes.proofs.variable_type.Tie as tie

@@ -5,7 +5,7 @@ use native.Mathlib.Omega.{arith}
 use borrow.Author.Tests.{not-true, not-false, ltb-true}
 use Rattle.records.specs.Fields.{functions, countOf}
 use Rattle.records.specs.Parts.{partOf}
-use Rattle.fit_table.specs.Tables.{Filled}
+use Rattle.fit_table.specs.Tables.{RowsFilled}
 use Rattle.spec_machine.specs.File.{programOf, funOf}
 use Rattle.spec_image.specs.Decode.{activationsTo, heldIn}
 use Rattle.fit_frames.proofs.Files.{record-in}
@@ -18,7 +18,7 @@ use Rattle.fit_state.proofs.callers_fit.Statement.{statement}
 use Rattle.fit_state.proofs.callers_fit.Tie as tie
 
 abbrev Inv-loop : tie.InvT-loop
-Inv-loop file starts table₀ m n high f a₀ g₀ top₀ table a g top = (a ≤ n) × (g < functions file) × (top ≡ heldIn m a) × (top ≤ 512) × (callersFit (programOf file) f (activationsTo m n) (framesTo m high) ≡ callersFit (programOf file) g (activationsTo m a) (framesTo m top)) × (length table ≡ length table₀) × Filled (partOf file g) table (countOf file g)
+Inv-loop file starts table₀ m n high f a₀ g₀ top₀ table a g top = (a ≤ n) × (g < functions file) × (top ≡ heldIn m a) × (top ≤ 512) × (callersFit (programOf file) f (activationsTo m n) (framesTo m high) ≡ callersFit (programOf file) g (activationsTo m a) (framesTo m top)) × (length table ≡ length table₀) × RowsFilled (partOf file g) table (countOf file g)
 
 abbrev μ-loop : tie.MeasureT-loop
 μ-loop file starts table₀ m n high f a₀ g₀ top₀ table a g top = a

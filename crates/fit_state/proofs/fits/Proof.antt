@@ -6,47 +6,36 @@ use borrow.Author.Needs.{needs}
 use Rattle.fit_state.proofs.fits.Statement.{statement}
 use Rattle.fit_state.proofs.fits.Tie as tie
 
--- src/lib.rt:319:8
 shared-slice-read-if1 : tie.Need-shared-slice-read-if1
 shared-slice-read-if1 c = search needs
 
--- src/lib.rt:320:9
 returns : tie.Need-returns
 returns c = let a = c .before .before .before .before .args in λ s R e w n. sym (fit-rest (programOf (a .file .now)) (a .m .now) s R e w n (λ i. c .before .before .shared-slice-known2 .given i .fits) (c .if1 .taken))
 
--- src/lib.rt:325:35
 slice-aggregate-running-fits : tie.Need-slice-aggregate-running-fits
 slice-aggregate-running-fits c = search needs
 
--- src/lib.rt:325:9
 running-fits-requires : tie.Need-running-fits-requires
 running-fits-requires c κs = ((c .before .before .before .before .before .before .pre .0, c .before .before .before .before .before .before .pre .1, c .before .before .before .before .before .before .pre .2, c .before .before .if1 .left), λ g l. let z = (laid (c .before .before .before .before .before .before .args .file .now) (c .before .before .before .before .before .before .pre .0)) .fits g l in search (needs, z, c .before .if2 .taken))
 
--- src/lib.rt:325:9
 returns-2 : tie.Need-returns-2
 returns-2 c = search needs
 
--- src/lib.rt:329:35
 slice-aggregate-running-fits-2 : tie.Need-slice-aggregate-running-fits-2
 slice-aggregate-running-fits-2 c = search needs
 
--- src/lib.rt:329:9
 running-fits-requires-2 : tie.Need-running-fits-requires-2
 running-fits-requires-2 c κs = ((c .before .before .before .before .before .before .before .pre .0, c .before .before .before .before .before .before .before .pre .1, c .before .before .before .before .before .before .before .pre .2, c .before .before .before .if1 .left), λ g l. let z = (laid (c .before .before .before .before .before .before .before .args .file .now) (c .before .before .before .before .before .before .before .pre .0)) .fits g l in search (needs, z, c .before .if3 .taken))
 
--- src/lib.rt:329:9
 returns-3 : tie.Need-returns-3
 returns-3 c = search needs
 
--- src/lib.rt:332:24
 slice-aggregate-running-fits-3 : tie.Need-slice-aggregate-running-fits-3
 slice-aggregate-running-fits-3 c = search needs
 
--- src/lib.rt:332:5
 running-fits-requires-3 : tie.Need-running-fits-requires-3
 running-fits-requires-3 c κs = ((c .before .before .before .before .before .before .before .pre .0, c .before .before .before .before .before .before .before .pre .1, c .before .before .before .before .before .before .before .pre .2, c .before .before .before .if1 .left), λ g l. let z = (laid (c .before .before .before .before .before .before .before .args .file .now) (c .before .before .before .before .before .before .before .pre .0)) .small g l in search (needs, z))
 
--- src/lib.rt:315:1
 returns-4 : tie.Need-returns-4
 returns-4 c = search needs
 

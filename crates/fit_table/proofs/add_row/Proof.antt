@@ -6,55 +6,42 @@ use borrow.Author.Needs.{needs}
 use Rattle.fit_table.proofs.add_row.Statement.{statement}
 use Rattle.fit_table.proofs.add_row.Tie as tie
 
--- src/lib.rt:166:9
 kind-at-requires : tie.Need-kind-at-requires
 kind-at-requires c κs = read-asks (c .before .before .before .pre .0 .0) (c .before .before .before .pre .0 .1) .0
 
--- src/lib.rt:167:8
 is-expression-requires : tie.Need-is-expression-requires
 is-expression-requires c κs = search needs
 
--- src/lib.rt:168:13
 expression-needs-requires : tie.Need-expression-needs-requires
 expression-needs-requires c κs = ((c .before .before .before .before .before .before .before .pre .0 .0, c .before .before .before .before .before .before .before .pre .0 .1, (rw (← c .before .before .before .kind-at .ensures, ← c .before .before .is-expression .ensures) (c .before .if1 .taken))), c .before .before .before .before .before .before .before .pre .1)
 
--- src/lib.rt:169:36
 empty-requires : tie.Need-empty-requires
 empty-requires c κs = search needs
 
--- src/lib.rt:169:13
 plain-requires : tie.Need-plain-requires
 plain-requires c κs = search needs
 
--- src/lib.rt:170:9
 put-row-requires : tie.Need-put-row-requires
 put-row-requires c κs = search needs
 
--- src/lib.rt:170:9
 same-length : tie.Need-same-length
 same-length c = search needs
 
--- src/lib.rt:170:9
 returns : tie.Need-returns
 returns c = more-reads _ _ _ _ _ _ _ _ (omega (arith, c .before .before .before .before .before .before .before .before .before .before .before .before .before .before .pre .0 .1, c .before .before .before .before .before .before .before .before .before .before .before .before .before .before .pre .1 .1)) (c .before .before .put-row .ensures) (c .before .before .before .before .before .before .before .before .before .before .before .before .before .before .pre .1 .0) (rw (← c .before .before .before .before .before .before .before .before .before .before .kind-at .ensures, ← c .before .before .before .before .before .before .before .before .before .is-expression .ensures) (c .before .before .before .before .before .before .before .before .if1 .taken)) (rw (c .before .before .before .before .plain .ensures .0 .2) (c .before .before .before .before .before .before .expression-needs .ensures))
 
--- src/lib.rt:172:9
 statement-row-requires : tie.Need-statement-row-requires
 statement-row-requires c κs = ((c .before .before .before .before .before .before .before .pre .0 .0, c .before .before .before .before .before .before .before .pre .0 .1, (rw (← c .before .before .before .kind-at .ensures, ← c .before .before .is-expression .ensures) (c .before .if1 .left))), c .before .before .before .before .before .before .before .pre .1)
 
--- src/lib.rt:173:9
 flags-of-requires : tie.Need-flags-of-requires
 flags-of-requires c κs = search needs
 
--- src/lib.rt:174:5
 put-row-requires-2 : tie.Need-put-row-requires-2
 put-row-requires-2 c κs = search needs
 
--- src/lib.rt:161:1
 same-length-2 : tie.Need-same-length-2
 same-length-2 c = search needs
 
--- src/lib.rt:161:1
 returns-2 : tie.Need-returns-2
 returns-2 c = more-flows _ _ _ _ _ _ _ _ (omega (arith, c .before .before .before .before .before .before .before .before .before .before .before .before .before .pre .0 .1, c .before .before .before .before .before .before .before .before .before .before .before .before .before .pre .1 .1)) (c .before .before .put-row2 .ensures) (c .before .before .before .before .before .before .before .before .before .before .before .before .before .pre .1 .0) (rw (← c .before .before .before .before .before .before .before .before .before .kind-at .ensures, ← c .before .before .before .before .before .before .before .before .is-expression .ensures) (c .before .before .before .before .before .before .before .if1 .left)) (c .before .before .before .before .before .statement-row .ensures) (c .before .before .before .before .flags-of .ensures) refl refl refl refl
 

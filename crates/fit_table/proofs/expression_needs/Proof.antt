@@ -2,7 +2,7 @@ use borrow.Author.Needs.{needs}
 use mathlib.Core.Path.{_≡_, ap, _∙_}
 use Rattle.fit_table.proofs.Filling.{read-asks, some-size, fits-size, needs-step}
 use Rattle.fit_table.proofs.Ranges.{range-needs}
-use Rattle.fit_nodes.proofs.Parts.{inside}
+use Rattle.fit_nodes.proofs.AcceptedParts.{inside}
 use native.Mathlib.Omega.{arith}
 use Rattle.records.specs.Fields.{sizeAt}
 use Prim.Native.Nat.{ℕ, _+_, _-_, _≤_}
@@ -16,58 +16,45 @@ Inv-loop file f part n table i set₀ end low₀ set low = (end ≤ low) × (low
 abbrev μ-loop : tie.MeasureT-loop
 μ-loop file f part n table i set₀ end low₀ set low = low
 
--- src/lib.rt:90:9
 own-read-requires : tie.Need-own-read-requires Inv-loop μ-loop
 own-read-requires c κs = read-asks (c .before .before .before .pre .0 .0) (c .before .before .before .pre .0 .1)
 
--- src/lib.rt:91:21
 add-minus : tie.Need-add-minus Inv-loop μ-loop
 add-minus c = search (needs, read-asks (c .before .before .before .before .pre .0 .0) (c .before .before .before .before .pre .0 .1) .0)
 
--- src/lib.rt:91:28
 size-at-requires : tie.Need-size-at-requires Inv-loop μ-loop
 size-at-requires c κs = read-asks (c .before .before .before .before .pre .0 .0) (c .before .before .before .before .pre .0 .1) .0
 
--- src/lib.rt:91:9
 minus-requires : tie.Need-minus-requires Inv-loop μ-loop
 minus-requires c κs = search needs
 
--- src/lib.rt:93:5
 loop-holds : tie.Need-loop-holds Inv-loop μ-loop
 loop-holds c = (omega (arith, c .minus .ensures, c .before .size-at .ensures, some-size (c .before .before .before .before .before .before .pre .0 .0) (c .before .before .before .before .before .before .pre .0 .1)), omega arith, c .before .before .own-read .ensures)
 
--- src/lib.rt:94:17
 sub-c : tie.Need-sub-c Inv-loop μ-loop
 sub-c c = omega (arith, c .loop-test .taken)
 
--- src/lib.rt:95:13
 needs-at-requires : tie.Need-needs-at-requires Inv-loop μ-loop
 needs-at-requires c κs = omega (arith, c .loop-test .taken, c .before .loop .inv .1, (c .before .before .before .before .before .before .before .before .pre .0 .1), c .before .before .before .before .before .before .before .before .pre .1 .1)
 
--- src/lib.rt:96:9
 union-requires : tie.Need-union-requires Inv-loop μ-loop
 union-requires c κs = search needs
 
--- src/lib.rt:97:26
 size-at-requires-2 : tie.Need-size-at-requires-2 Inv-loop μ-loop
 size-at-requires-2 c κs = omega (arith, c .before .before .loop-test .taken, c .before .before .before .loop .inv .1, (c .before .before .before .before .before .before .before .before .before .before .pre .0 .1), inside (c .before .before .before .before .before .before .before .before .before .before .pre .0 .0))
 
--- src/lib.rt:97:9
 minus-requires-2 : tie.Need-minus-requires-2 Inv-loop μ-loop
 minus-requires-2 c κs = search needs
 
--- src/lib.rt:93:5
 loop-less : tie.Need-loop-less Inv-loop μ-loop
 loop-less c = let y = some-size (c .before .before .before .before .before .before .before .before .before .before .before .before .pre .0 .0) {i = c .before .before .before .before .before .loop .low - 1} (omega (arith, c .before .before .before .before .before .loop .inv .1, (c .before .before .before .before .before .before .before .before .before .before .before .before .pre .0 .1))) in
     omega (arith, c .before .before .before .before .loop-test .taken, c .minus2 .ensures, c .before .size-at2 .ensures, y)
 
--- src/lib.rt:93:5
 loop-again : tie.Need-loop-again Inv-loop μ-loop
 loop-again c = let e = c .before .before .before .before .before .before .minus .ensures ∙ ap (λ (z : ℕ). c .before .before .before .before .before .before .before .before .before .before .before .before .args .i + 1 - z) (c .before .before .before .before .before .before .before .size-at .ensures .0) in
     let v = c .minus2 .ensures ∙ ap (λ (z : ℕ). c .before .before .before .before .before .loop .low - z) (c .before .size-at2 .ensures .0) in
     rw e (needs-step (c .before .before .before .before .before .before .before .before .before .before .before .before .pre .0 .0) (c .before .before .before .before .before .before .before .before .before .before .before .before .pre .0 .1) (c .before .before .before .before .before .before .before .before .before .before .before .before .pre .0 .2) (c .before .before .before .before .before .before .before .before .before .before .before .before .pre .1 .0) (rw e at (c .before .before .before .before .loop-test .taken)) (c .before .before .before .before .before .loop .inv .1) (c .before .before .before .before .before .loop .inv .2) (c .before .before .before .needs-at .ensures) (c .before .before .union .ensures) v)
 
--- src/lib.rt:85:1
 returns : tie.Need-returns Inv-loop μ-loop
 returns c = let e = c .before .before .minus .ensures ∙ ap (λ (z : ℕ). c .before .before .before .before .before .before .before .before .args .i + 1 - z) (c .before .before .before .size-at .ensures .0) in
     let q : c .before .loop .low ≡ c .before .before .before .before .before .before .before .before .args .i + 1 - sizeAt (c .before .before .before .before .before .before .before .before .args .part .now) (c .before .before .before .before .before .before .before .before .args .i) = omega (arith, c .loop-test .left, c .before .loop .inv .0, e) in

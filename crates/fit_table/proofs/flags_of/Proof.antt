@@ -3,22 +3,18 @@ use mathlib.Core.Path.{sym}
 use Rattle.fit_table.proofs.flags_of.Statement.{statement}
 use Rattle.fit_table.proofs.flags_of.Tie as tie
 
--- src/lib.rt:28:9
 returns : tie.Need-returns
 unfolding failsIn returnsIn
 returns c = (sym (c .before .if1 .taken), sym (c .if2 .taken))
 
--- src/lib.rt:28:9
 returns-2 : tie.Need-returns-2
 unfolding failsIn returnsIn
 returns-2 c = (sym (c .before .if1 .taken), sym (c .if2 .left))
 
--- src/lib.rt:24:1
 returns-3 : tie.Need-returns-3
 unfolding failsIn returnsIn
 returns-3 c = (sym (c .before .if1 .left), sym (c .if3 .taken))
 
--- src/lib.rt:24:1
 returns-4 : tie.Need-returns-4
 unfolding failsIn returnsIn
 returns-4 c = (sym (c .before .if1 .left), sym (c .if3 .left))

@@ -4,23 +4,18 @@ use borrow.Author.Needs.{needs}
 use Rattle.fit_table.proofs.needs_at.Statement.{statement}
 use Rattle.fit_table.proofs.needs_at.Tie as tie
 
--- src/lib.rt:56:18
 mul-t3 : tie.Need-mul-t3
 mul-t3 c = search needs
 
--- src/lib.rt:56:18
 add-t4 : tie.Need-add-t4
 add-t4 c = search needs
 
--- src/lib.rt:56:12
 mul-t5 : tie.Need-mul-t5
 mul-t5 c = search needs
 
--- src/lib.rt:56:12
 shared-slice-read-t7 : tie.Need-shared-slice-read-t7
 shared-slice-read-t7 c = search needs
 
--- src/lib.rt:52:1
 returns : tie.Need-returns
 unfolding wordOf
 returns c = refl

@@ -4,31 +4,24 @@ use borrow.Author.Needs.{needs}
 use Rattle.fit_table.proofs.own_read.Statement.{statement}
 use Rattle.fit_table.proofs.own_read.Tie as tie
 
--- src/lib.rt:77:8
 kind-at-requires : tie.Need-kind-at-requires
 kind-at-requires c κs = search needs
 
--- src/lib.rt:78:9
 empty-requires : tie.Need-empty-requires
 empty-requires c κs = search needs
 
--- src/lib.rt:78:32
 b-at-requires : tie.Need-b-at-requires
 b-at-requires c κs = search needs
 
--- src/lib.rt:78:9
 insert-requires : tie.Need-insert-requires
 insert-requires c κs = rw (c .b-at .ensures) (c .before .before .before .before .before .pre .1 (sym (c .before .before .before .kind-at .ensures) ∙ c .before .before .if1 .taken))
 
--- src/lib.rt:80:9
 empty-requires-2 : tie.Need-empty-requires-2
 empty-requires-2 c κs = search needs
 
--- src/lib.rt:73:1
 returns : tie.Need-returns
 returns c = one-read _ _ _ (sym (c .before .before .before .before .kind-at .ensures) ∙ c .before .before .before .if1 .taken) (c .insert .ensures ∙ rw (c .before .before .empty .ensures, c .before .b-at .ensures))
 
--- src/lib.rt:73:1
 returns-2 : tie.Need-returns-2
 returns-2 c = none-read _ _ _ (λ e. c .before .if1 .left (c .before .before .kind-at .ensures ∙ e)) (c .empty2 .ensures)
 

@@ -1,6 +1,6 @@
 use Rattle.fit_table.proofs.Arms.{none-of, after-one, seq-arm, decl-arm, if-arm, while-arm, assign-arm, return-arm, assert-arm, expr-arm, nop-arm}
 use Rattle.fit_table.proofs.Filling.{read-asks, named-below}
-use Rattle.fit_nodes.proofs.Parts.{inside}
+use Rattle.fit_nodes.proofs.AcceptedParts.{inside}
 use Rattle.spec_language.specs.Scopes.{usesVariable}
 use Rattle.spec_language.specs.Known.{namesVariable}
 use Rattle.records.specs.Children.{arityOf, arities}
@@ -10,217 +10,166 @@ use borrow.Author.Needs.{needs}
 use Rattle.fit_table.proofs.statement_row.Statement.{statement}
 use Rattle.fit_table.proofs.statement_row.Tie as tie
 
--- src/lib.rt:108:9
 kind-at-requires : tie.Need-kind-at-requires
 kind-at-requires c κs = read-asks (c .before .before .before .pre .0 .0) (c .before .before .before .pre .0 .1) .0
 
--- src/lib.rt:111:24
 sub-last : tie.Need-sub-last
 unfolding arityOf arities
 sub-last c = after-one (c .before .before .before .before .before .pre .0 .0) (c .before .before .before .before .before .pre .0 .1) 7 1 (sym (c .before .kind-at .ensures) ∙ c .match .keys1) refl
 
--- src/lib.rt:112:17
 prior-requires : tie.Need-prior-requires
 prior-requires c κs = omega (arith, inside (c .before .before .before .before .before .pre .0 .0), (c .before .before .before .before .before .pre .0 .1))
 
--- src/lib.rt:113:17
 row-at-requires : tie.Need-row-at-requires
 row-at-requires c κs = search needs
 
--- src/lib.rt:114:17
 row-at-requires-2 : tie.Need-row-at-requires-2
 row-at-requires-2 c κs = search needs
 
--- src/lib.rt:115:13
 in-sequence-requires : tie.Need-in-sequence-requires
 in-sequence-requires c κs = search needs
 
--- src/lib.rt:118:41
 sub-needs-at : tie.Need-sub-needs-at
 unfolding arityOf arities
 sub-needs-at c = after-one (c .before .before .before .before .before .pre .0 .0) (c .before .before .before .before .before .pre .0 .1) 8 0 (sym (c .before .kind-at .ensures) ∙ c .match .keys2) refl
 
--- src/lib.rt:118:17
 needs-at-requires : tie.Need-needs-at-requires
 needs-at-requires c κs = search needs
 
--- src/lib.rt:119:17
 empty-requires : tie.Need-empty-requires
 empty-requires c κs = search needs
 
--- src/lib.rt:120:36
 b-at-requires : tie.Need-b-at-requires
 b-at-requires c κs = read-asks (c .before .before .before .before .before .before .before .pre .0 .0) (c .before .before .before .before .before .before .before .pre .0 .1) .0
 
--- src/lib.rt:120:17
 insert-requires : tie.Need-insert-requires
 unfolding namesVariable usesVariable
 insert-requires c κs = rw (c .b-at .ensures) (named-below (c .before .before .before .before .before .before .before .before .pre .0 .0) 8 (c .before .before .before .before .before .before .before .before .pre .0 .1) (sym (c .before .before .before .before .kind-at .ensures) ∙ c .before .before .before .match .keys2) refl)
 
--- src/lib.rt:121:13
 plain-requires : tie.Need-plain-requires
 plain-requires c κs = search needs
 
--- src/lib.rt:124:39
 sub-row-at : tie.Need-sub-row-at
 unfolding arityOf arities
 sub-row-at c = after-one (c .before .before .before .before .before .pre .0 .0) (c .before .before .before .before .before .pre .0 .1) 9 0 (sym (c .before .kind-at .ensures) ∙ c .match .keys3) refl
 
--- src/lib.rt:124:17
 row-at-requires-3 : tie.Need-row-at-requires-3
 row-at-requires-3 c κs = search needs
 
--- src/lib.rt:125:35
 b-at-requires-2 : tie.Need-b-at-requires-2
 b-at-requires-2 c κs = read-asks (c .before .before .before .before .before .before .pre .0 .0) (c .before .before .before .before .before .before .pre .0 .1) .0
 
--- src/lib.rt:125:13
 in-scope-requires : tie.Need-in-scope-requires
 unfolding namesVariable usesVariable
 in-scope-requires c κs = rw (c .b-at2 .ensures) (named-below (c .before .before .before .before .before .before .before .pre .0 .0) 9 (c .before .before .before .before .before .before .before .pre .0 .1) (sym (c .before .before .before .kind-at .ensures) ∙ c .before .before .match .keys3) refl)
 
--- src/lib.rt:128:24
 sub-last-2 : tie.Need-sub-last-2
 unfolding arityOf arities
 sub-last-2 c = after-one (c .before .before .before .before .before .pre .0 .0) (c .before .before .before .before .before .pre .0 .1) 10 2 (sym (c .before .kind-at .ensures) ∙ c .match .keys4) refl
 
--- src/lib.rt:129:17
 prior-requires-2 : tie.Need-prior-requires-2
 prior-requires-2 c κs = omega (arith, inside (c .before .before .before .before .before .pre .0 .0), (c .before .before .before .before .before .pre .0 .1))
 
--- src/lib.rt:130:45
 prior-requires-3 : tie.Need-prior-requires-3
 prior-requires-3 c κs = omega (arith, inside (c .before .before .before .before .before .before .pre .0 .0), (c .before .before .before .before .before .before .pre .0 .1), c .prior2 .ensures)
 
--- src/lib.rt:130:17
 needs-at-requires-2 : tie.Need-needs-at-requires-2
 needs-at-requires-2 c κs = search needs
 
--- src/lib.rt:131:17
 row-at-requires-4 : tie.Need-row-at-requires-4
 row-at-requires-4 c κs = search needs
 
--- src/lib.rt:132:17
 row-at-requires-5 : tie.Need-row-at-requires-5
 row-at-requires-5 c κs = search needs
 
--- src/lib.rt:133:13
 in-branches-requires : tie.Need-in-branches-requires
 in-branches-requires c κs = search needs
 
--- src/lib.rt:136:24
 sub-last-3 : tie.Need-sub-last-3
 unfolding arityOf arities
 sub-last-3 c = after-one (c .before .before .before .before .before .pre .0 .0) (c .before .before .before .before .before .pre .0 .1) 11 1 (sym (c .before .kind-at .ensures) ∙ c .match .keys5) refl
 
--- src/lib.rt:137:45
 prior-requires-4 : tie.Need-prior-requires-4
 prior-requires-4 c κs = omega (arith, inside (c .before .before .before .before .before .pre .0 .0), (c .before .before .before .before .before .pre .0 .1))
 
--- src/lib.rt:137:17
 needs-at-requires-3 : tie.Need-needs-at-requires-3
 needs-at-requires-3 c κs = search needs
 
--- src/lib.rt:138:17
 row-at-requires-6 : tie.Need-row-at-requires-6
 row-at-requires-6 c κs = search needs
 
--- src/lib.rt:139:13
 in-loop-requires : tie.Need-in-loop-requires
 in-loop-requires c κs = search needs
 
--- src/lib.rt:142:41
 sub-needs-at-2 : tie.Need-sub-needs-at-2
 unfolding arityOf arities
 sub-needs-at-2 c = after-one (c .before .before .before .before .before .pre .0 .0) (c .before .before .before .before .before .pre .0 .1) 12 0 (sym (c .before .kind-at .ensures) ∙ c .match .keys6) refl
 
--- src/lib.rt:142:17
 needs-at-requires-4 : tie.Need-needs-at-requires-4
 needs-at-requires-4 c κs = search needs
 
--- src/lib.rt:143:32
 empty-requires-2 : tie.Need-empty-requires-2
 empty-requires-2 c κs = search needs
 
--- src/lib.rt:143:13
 plain-requires-2 : tie.Need-plain-requires-2
 plain-requires-2 c κs = search needs
 
--- src/lib.rt:146:41
 sub-needs-at-3 : tie.Need-sub-needs-at-3
 unfolding arityOf arities
 sub-needs-at-3 c = after-one (c .before .before .before .before .before .pre .0 .0) (c .before .before .before .before .before .pre .0 .1) 13 0 (sym (c .before .kind-at .ensures) ∙ c .match .keys7) refl
 
--- src/lib.rt:146:17
 needs-at-requires-5 : tie.Need-needs-at-requires-5
 needs-at-requires-5 c κs = search needs
 
--- src/lib.rt:147:32
 empty-requires-3 : tie.Need-empty-requires-3
 empty-requires-3 c κs = search needs
 
--- src/lib.rt:147:13
 plain-requires-3 : tie.Need-plain-requires-3
 plain-requires-3 c κs = search needs
 
--- src/lib.rt:150:41
 sub-needs-at-4 : tie.Need-sub-needs-at-4
 unfolding arityOf arities
 sub-needs-at-4 c = after-one (c .before .before .before .before .before .pre .0 .0) (c .before .before .before .before .before .pre .0 .1) 14 0 (sym (c .before .kind-at .ensures) ∙ c .match .keys8) refl
 
--- src/lib.rt:150:17
 needs-at-requires-6 : tie.Need-needs-at-requires-6
 needs-at-requires-6 c κs = search needs
 
--- src/lib.rt:151:32
 empty-requires-4 : tie.Need-empty-requires-4
 empty-requires-4 c κs = search needs
 
--- src/lib.rt:151:13
 plain-requires-4 : tie.Need-plain-requires-4
 plain-requires-4 c κs = search needs
 
--- src/lib.rt:154:17
 empty-requires-5 : tie.Need-empty-requires-5
 empty-requires-5 c κs = search needs
 
--- src/lib.rt:155:13
 plain-requires-5 : tie.Need-plain-requires-5
 plain-requires-5 c κs = search needs
 
--- src/lib.rt:103:1
 returns : tie.Need-returns
 returns c = seq-arm (c .before .before .before .before .before .before .before .before .before .pre .0 .0) (c .before .before .before .before .before .before .before .before .before .pre .0 .1) _ (c .before .before .before .before .before .before .before .before .before .pre .1 .0) _ (sym (c .before .before .before .before .before .kind-at .ensures) ∙ c .before .before .before .before .match .keys1) (c .before .before .before .prior .ensures) (c .before .before .row-at .ensures) (c .before .row-at2 .ensures) (c .in-sequence .ensures)
 
--- src/lib.rt:103:1
 returns-2 : tie.Need-returns-2
 returns-2 c = assign-arm (c .before .before .before .before .before .before .before .before .before .before .pre .0 .0) (c .before .before .before .before .before .before .before .before .before .before .pre .0 .1) _ (c .before .before .before .before .before .before .before .before .before .before .pre .1 .0) _ (c .before .before .before .before .needs-at .ensures) (sym (c .before .before .before .before .before .before .kind-at .ensures) ∙ c .before .before .before .before .before .match .keys2) (c .before .before .b-at .ensures) (rw (c .before .before .before .empty .ensures) at (c .before .insert .ensures)) (c .plain .ensures)
 
--- src/lib.rt:103:1
 returns-3 : tie.Need-returns-3
 returns-3 c = decl-arm (c .before .before .before .before .before .before .before .before .pre .0 .0) (c .before .before .before .before .before .before .before .before .pre .0 .1) _ (c .before .before .before .before .before .before .before .before .pre .1 .0) _ (sym (c .before .before .before .before .kind-at .ensures) ∙ c .before .before .before .match .keys3) (c .before .b-at2 .ensures) (c .before .before .row-at3 .ensures) (c .in-scope .ensures)
 
--- src/lib.rt:103:1
 returns-4 : tie.Need-returns-4
 returns-4 c = if-arm (c .before .before .before .before .before .before .before .before .before .before .before .pre .0 .0) (c .before .before .before .before .before .before .before .before .before .before .before .pre .0 .1) _ (c .before .before .before .before .before .before .before .before .before .before .before .pre .1 .0) _ (sym (c .before .before .before .before .before .before .before .kind-at .ensures) ∙ c .before .before .before .before .before .before .match .keys4) (c .before .before .before .before .before .prior2 .ensures) (c .before .before .before .before .prior3 .ensures) (c .before .before .before .needs-at2 .ensures) (c .before .before .row-at4 .ensures) (c .before .row-at5 .ensures) (c .in-branches .ensures)
 
--- src/lib.rt:103:1
 returns-5 : tie.Need-returns-5
 returns-5 c = while-arm (c .before .before .before .before .before .before .before .before .before .pre .0 .0) (c .before .before .before .before .before .before .before .before .before .pre .0 .1) _ (c .before .before .before .before .before .before .before .before .before .pre .1 .0) _ (sym (c .before .before .before .before .before .kind-at .ensures) ∙ c .before .before .before .before .match .keys5) (c .before .before .before .prior4 .ensures) (c .before .before .needs-at3 .ensures) (c .before .row-at6 .ensures) (c .in-loop .ensures)
 
--- src/lib.rt:103:1
 returns-6 : tie.Need-returns-6
 returns-6 c = return-arm (c .before .before .before .before .before .before .before .before .pre .0 .0) (c .before .before .before .before .before .before .before .before .pre .0 .1) _ (c .before .before .before .before .before .before .before .before .pre .1 .0) _ (c .before .before .needs-at4 .ensures) (sym (c .before .before .before .before .kind-at .ensures) ∙ c .before .before .before .match .keys6) (c .before .empty2 .ensures) (c .plain2 .ensures)
 
--- src/lib.rt:103:1
 returns-7 : tie.Need-returns-7
 returns-7 c = assert-arm (c .before .before .before .before .before .before .before .before .pre .0 .0) (c .before .before .before .before .before .before .before .before .pre .0 .1) _ (c .before .before .before .before .before .before .before .before .pre .1 .0) _ (c .before .before .needs-at5 .ensures) (sym (c .before .before .before .before .kind-at .ensures) ∙ c .before .before .before .match .keys7) (c .before .empty3 .ensures) (c .plain3 .ensures)
 
--- src/lib.rt:103:1
 returns-8 : tie.Need-returns-8
 returns-8 c = expr-arm (c .before .before .before .before .before .before .before .before .pre .0 .0) (c .before .before .before .before .before .before .before .before .pre .0 .1) _ (c .before .before .before .before .before .before .before .before .pre .1 .0) _ (c .before .before .needs-at6 .ensures) (sym (c .before .before .before .before .kind-at .ensures) ∙ c .before .before .before .match .keys8) (c .before .empty4 .ensures) (c .plain4 .ensures)
 
--- src/lib.rt:103:1
 returns-9 : tie.Need-returns-9
 returns-9 c = nop-arm (c .before .before .before .before .before .before .before .pre .0 .0) (c .before .before .before .before .before .before .before .pre .0 .1) _ (c .before .before .before .before .before .before .before .pre .1 .0) _ (none-of _ (λ e. c .before .before .match .rest .0 .0 .0 .0 .0 .0 .0 .1 (c .before .before .before .kind-at .ensures ∙ e)) (λ e. c .before .before .match .rest .0 .0 .0 .0 .0 .0 .1 (c .before .before .before .kind-at .ensures ∙ e)) (λ e. c .before .before .match .rest .0 .0 .0 .0 .0 .1 (c .before .before .before .kind-at .ensures ∙ e)) (λ e. c .before .before .match .rest .0 .0 .0 .0 .1 (c .before .before .before .kind-at .ensures ∙ e)) (λ e. c .before .before .match .rest .0 .0 .0 .1 (c .before .before .before .kind-at .ensures ∙ e)) (λ e. c .before .before .match .rest .0 .0 .1 (c .before .before .before .kind-at .ensures ∙ e)) (λ e. c .before .before .match .rest .0 .1 (c .before .before .before .kind-at .ensures ∙ e)) (λ e. c .before .before .match .rest .1 (c .before .before .before .kind-at .ensures ∙ e))) (c .before .empty5 .ensures) (c .before .empty5 .ensures) (c .plain5 .ensures)
 

@@ -1,49 +1,39 @@
-use Rattle.panelrue_c.specs.Told.{outcomeNumber}
+use Rattle.panelrue_c.specs.HostAnswers.{outcomeNumber}
 use borrow.Author.Needs.{needs}
 use Rattle.panelrue_c.proofs.outcome_number.Statement.{statement}
 use Rattle.panelrue_c.proofs.outcome_number.Tie as tie
 
--- src/lib.rt:78:24
 enum-known-outcome : tie.Need-enum-known-outcome
 enum-known-outcome c = search needs
 
--- src/lib.rt:79:27
 enum-told : tie.Need-enum-told
 enum-told c = search needs
 
--- src/lib.rt:80:27
 enum-told-2 : tie.Need-enum-told-2
 enum-told-2 c = search needs
 
--- src/lib.rt:81:27
 enum-told-3 : tie.Need-enum-told-3
 enum-told-3 c = search needs
 
--- src/lib.rt:82:26
 enum-told-4 : tie.Need-enum-told-4
 enum-told-4 c = search needs
 
--- src/lib.rt:74:1
 returns : tie.Need-returns
 unfolding outcomeNumber
 returns c = rw (c .before .outcome .given .1)
 
--- src/lib.rt:74:1
 returns-2 : tie.Need-returns-2
 unfolding outcomeNumber
 returns-2 c = rw (c .enum-told .given .1)
 
--- src/lib.rt:74:1
 returns-3 : tie.Need-returns-3
 unfolding outcomeNumber
 returns-3 c = rw (c .enum-told2 .given .1)
 
--- src/lib.rt:74:1
 returns-4 : tie.Need-returns-4
 unfolding outcomeNumber
 returns-4 c = rw (c .enum-told3 .given .1)
 
--- src/lib.rt:74:1
 returns-5 : tie.Need-returns-5
 unfolding outcomeNumber
 returns-5 c = rw (c .enum-told4 .given .1)

@@ -1,93 +1,74 @@
 use mir.Syntax.{w32}
 use mir.ValLaws.{toZ-ofZ}
 use mathlib.Core.Path.{sym, _∙_}
-use Rattle.panelrue_c.specs.Told.{lookNumber, lookWords}
+use Rattle.panelrue_c.specs.HostAnswers.{lookNumber, lookWords}
 use borrow.Author.Needs.{needs}
 use Rattle.panelrue_c.proofs.panelrue_look_up.Statement.{statement}
 use Rattle.panelrue_c.proofs.panelrue_look_up.Tie as tie
 
--- src/lib.rt:158:11
 look-up-requires : tie.Need-look-up-requires
 look-up-requires c κs = search needs
 
--- src/lib.rt:160:23
 enum-told : tie.Need-enum-told
 enum-told c = search needs
 
--- src/lib.rt:160:13
 tell-look-requires : tie.Need-tell-look-requires
 tell-look-requires c κs = search needs
 
--- src/lib.rt:163:19
 enum-known-z : tie.Need-enum-known-z
 enum-known-z c = search needs
 
--- src/lib.rt:164:34
 bits-requires : tie.Need-bits-requires
 bits-requires c κs = search needs
 
--- src/lib.rt:164:34
 cast-tell-look : tie.Need-cast-tell-look
 cast-tell-look c = search needs
 
--- src/lib.rt:164:13
 tell-look-requires-2 : tie.Need-tell-look-requires-2
 tell-look-requires-2 c κs = search needs
 
--- src/lib.rt:167:21
 enum-known-truth : tie.Need-enum-known-truth
 enum-known-truth c = search needs
 
--- src/lib.rt:168:34
 bit-requires : tie.Need-bit-requires
 bit-requires c κs = search needs
 
--- src/lib.rt:168:13
 tell-look-requires-3 : tie.Need-tell-look-requires-3
 tell-look-requires-3 c κs = search needs
 
--- src/lib.rt:172:13
 enum-known-question : tie.Need-enum-known-question
 enum-known-question c = search needs
 
--- src/lib.rt:175:14
 pack-requires : tie.Need-pack-requires
 pack-requires c κs = rw (c .before .question .given .1) at (c .before .before .before .look-up .ensures .1)
 
--- src/lib.rt:153:1
 same-length : tie.Need-same-length
 same-length c = search needs
 
--- src/lib.rt:153:1
 returns : tie.Need-returns
 unfolding lookNumber lookWords
 returns c =
     let e = sym (c .before .before .before .before .before .before .look-up .ensures .0) ∙ c .before .before .before .before .enum-told .given .1 in
     (rw e, rw e (c .before .before .tell-look .ensures))
 
--- src/lib.rt:153:1
 same-length-2 : tie.Need-same-length-2
 same-length-2 c = search needs
 
--- src/lib.rt:153:1
 returns-2 : tie.Need-returns-2
 unfolding lookNumber lookWords
 returns-2 c =
     let e = sym (c .before .before .before .before .before .before .before .before .look-up .ensures .0) ∙ c .before .before .before .before .before .before .z .given .1 in
     (rw e, rw e (c .before .before .tell-look2 .ensures ∙ rw (c .before .before .before .bits .ensures, toZ-ofZ w32 _ (record { sfits = c .before .before .before .before .before .known-told .given .0 .1 }))))
 
--- src/lib.rt:153:1
 same-length-3 : tie.Need-same-length-3
 same-length-3 c = search needs
 
--- src/lib.rt:153:1
 returns-3 : tie.Need-returns-3
 unfolding lookNumber lookWords
 returns-3 c =
     let e = sym (c .before .before .before .before .before .before .before .before .look-up .ensures .0) ∙ c .before .before .before .before .before .before .truth .given .1 in
     (rw e, rw (e, ← (c .before .before .before .bit .ensures)) (c .before .before .tell-look3 .ensures))
 
--- src/lib.rt:153:1
 returns-4 : tie.Need-returns-4
 unfolding lookNumber lookWords
 returns-4 c =

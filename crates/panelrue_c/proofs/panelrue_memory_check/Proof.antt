@@ -4,15 +4,12 @@ use borrow.Author.Needs.{needs}
 use Rattle.panelrue_c.proofs.panelrue_memory_check.Statement.{statement}
 use Rattle.panelrue_c.proofs.panelrue_memory_check.Tie as tie
 
--- src/lib.rt:70:12
 check-memory-requires : tie.Need-check-memory-requires
 check-memory-requires c κs = search needs
 
--- src/lib.rt:70:5
 number-requires : tie.Need-number-requires
 number-requires c κs = search needs
 
--- src/lib.rt:66:1
 returns : tie.Need-returns
 returns c = c .number .ensures ∙ ap packed (c .before .check-memory .ensures .0)
 

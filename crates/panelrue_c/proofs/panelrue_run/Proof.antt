@@ -1,49 +1,39 @@
 use mathlib.Core.Path.{sym, _∙_}
-use Rattle.panelrue_c.specs.Told.{runNumber, runWords}
+use Rattle.panelrue_c.specs.HostAnswers.{runNumber, runWords}
 use borrow.Author.Needs.{needs}
 use Rattle.panelrue_c.proofs.panelrue_run.Statement.{statement}
 use Rattle.panelrue_c.proofs.panelrue_run.Tie as tie
 
--- src/lib.rt:121:11
 run-requires : tie.Need-run-requires
 run-requires c κs = search needs
 
--- src/lib.rt:122:22
 enum-known-r : tie.Need-enum-known-r
 enum-known-r c = search needs
 
--- src/lib.rt:123:13
 tell-run-requires : tie.Need-tell-run-requires
 tell-run-requires c κs = search needs
 
--- src/lib.rt:127:13
 enum-known-question : tie.Need-enum-known-question
 enum-known-question c = search needs
 
--- src/lib.rt:130:14
 pack-requires : tie.Need-pack-requires
 pack-requires c κs = rw (c .before .question .given .1) at (c .before .before .before .before .before .run .ensures .1 .0)
 
--- src/lib.rt:115:1
 same-length : tie.Need-same-length
 same-length c = search needs
 
--- src/lib.rt:115:1
 same-length-2 : tie.Need-same-length-2
 same-length-2 c = search needs
 
--- src/lib.rt:115:1
 returns : tie.Need-returns
 unfolding runNumber
 returns c =
     let e = sym (c .before .before .before .before .before .before .before .before .before .run .ensures .0) ∙ c .before .before .before .before .before .r .given .1 in
     (rw e, (c .before .before .before .before .before .before .before .before .before .run .ensures .1 .1, rw e (c .before .before .tell-run .ensures)))
 
--- src/lib.rt:115:1
 same-length-3 : tie.Need-same-length-3
 same-length-3 c = search needs
 
--- src/lib.rt:115:1
 returns-2 : tie.Need-returns-2
 unfolding runNumber runWords
 returns-2 c =

@@ -3,23 +3,18 @@ use borrow.Author.Needs.{needs}
 use Rattle.panelrue_c.proofs.tell_look.Statement.{statement}
 use Rattle.panelrue_c.proofs.tell_look.Tie as tie
 
--- src/lib.rt:139:9
 returns : tie.Need-returns
 returns c = rw (lt-leb 2 _ (c .if1 .taken))
 
--- src/lib.rt:141:5
 slice-write-answer : tie.Need-slice-write-answer
 slice-write-answer c = search needs
 
--- src/lib.rt:142:5
 slice-write-answer-2 : tie.Need-slice-write-answer-2
 slice-write-answer-2 c = search needs
 
--- src/lib.rt:135:1
 same-length : tie.Need-same-length
 same-length c = search needs
 
--- src/lib.rt:135:1
 returns-2 : tie.Need-returns-2
 returns-2 c = rw (le-leb 2 _ (c .if1 .left))
 

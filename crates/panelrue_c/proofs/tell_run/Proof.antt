@@ -1,41 +1,33 @@
 use native.Mathlib.Omega.{arith}
-use Rattle.panelrue_c.specs.Told.{runWords}
+use Rattle.panelrue_c.specs.HostAnswers.{runWords}
 use lib.ListN.{length-set}
 use borrow.Author.Tests.{le-leb, lt-leb}
 use borrow.Author.Needs.{needs}
 use Rattle.panelrue_c.proofs.tell_run.Statement.{statement}
 use Rattle.panelrue_c.proofs.tell_run.Tie as tie
 
--- src/lib.rt:104:9
 returns : tie.Need-returns
 unfolding runWords
 returns c = rw (lt-leb 3 _ (c .if1 .taken))
 
--- src/lib.rt:107:9
 outcome-number-requires : tie.Need-outcome-number-requires
 outcome-number-requires c κs = search needs
 
--- src/lib.rt:108:9
 outcome-word-requires : tie.Need-outcome-word-requires
 outcome-word-requires c κs = search needs
 
--- src/lib.rt:109:5
 slice-write-answer : tie.Need-slice-write-answer
 slice-write-answer c = search needs
 
--- src/lib.rt:110:5
 slice-write-answer-2 : tie.Need-slice-write-answer-2
 slice-write-answer-2 c = simp length-set (omega arith)
 
--- src/lib.rt:111:5
 slice-write-answer-3 : tie.Need-slice-write-answer-3
 slice-write-answer-3 c = search needs
 
--- src/lib.rt:100:1
 same-length : tie.Need-same-length
 same-length c = search needs
 
--- src/lib.rt:100:1
 returns-2 : tie.Need-returns-2
 unfolding runWords
 returns-2 c = rw (le-leb 3 _ (c .before .before .if1 .left), c .before .outcome-number .ensures, c .outcome-word .ensures)

@@ -9,47 +9,36 @@ use borrow.Author.Needs.{needs}
 use Rattle.run_loop.proofs.begin.Statement.{statement}
 use Rattle.run_loop.proofs.begin.Tie as tie
 
--- src/lib.rt:171:9
 returns : tie.Need-returns
 returns c R e = main-spent _ _ _ R (c .if1 .taken) e
 
--- src/lib.rt:176:18
 starts-of-requires : tie.Need-starts-of-requires
 starts-of-requires c κs = file-laid (c .before .before .before .args .file .now) (c .before .before .before .pre .0 .passed)
 
--- src/lib.rt:177:17
 array-read-start : tie.Need-array-read-start
 array-read-start c = search needs
 
--- src/lib.rt:178:9
 count-of-requires : tie.Need-count-of-requires
 count-of-requires c κs = omega (arith, file-laid (c .before .before .before .before .args .file .now) (c .before .before .before .before .pre .0 .passed) .heads, main-known (c .before .before .before .before .args .file .now) (c .before .before .before .before .pre .0 .passed))
 
--- src/lib.rt:179:5
 slice-write-m : tie.Need-slice-write-m
 slice-write-m c = search needs
 
--- src/lib.rt:180:5
 slice-write-m-2 : tie.Need-slice-write-m-2
 slice-write-m-2 c = simp length-set (omega arith)
 
--- src/lib.rt:181:38
 vars-of-requires : tie.Need-vars-of-requires
 vars-of-requires c κs = omega (arith, file-laid (c .before .before .before .before .before .before .args .file .now) (c .before .before .before .before .before .before .pre .0 .passed) .heads, main-known (c .before .before .before .before .before .before .args .file .now) (c .before .before .before .before .before .before .pre .0 .passed))
 
--- src/lib.rt:181:33
 wide-requires : tie.Need-wide-requires
 wide-requires c κs = search needs
 
--- src/lib.rt:181:5
 enter-main-requires : tie.Need-enter-main-requires
 enter-main-requires c κs = search needs
 
--- src/lib.rt:182:27
 body-of-requires : tie.Need-body-of-requires
 body-of-requires c κs = part-laid _ (c .before .before .before .before .before .before .before .starts-of .result) 0 _ _ (c .before .before .before .before .before .before .before .starts-of .ensures) (main-known (c .before .before .before .before .before .before .before .before .before .before .before .args .file .now) (c .before .before .before .before .before .before .before .before .before .before .before .pre .0 .passed)) refl (c .before .before .before .before .before .before .count-of .ensures .0)
 
--- src/lib.rt:191:5
 go-requires : tie.Need-go-requires
 go-requires c κs =
     let b = c .before .before .before .before .before .before .before .before .before .before .before .before .before .before in
@@ -65,11 +54,9 @@ go-requires c κs =
       pos (c .before .before .before .before .before .before .before .before .before .before .before .if1 .left),
     )
 
--- src/lib.rt:166:1
 same-length : tie.Need-same-length
 same-length c = c .before .before .go .kept .1 .1 .0 ∙ c .before .before .before .before .before .before .before .before .enter-main .kept .0 ∙ two-set (c .before .before .before .before .before .before .before .before .before .before .before .before .before .before .before .before .before .args .m .now)
 
--- src/lib.rt:166:1
 returns-2 : tie.Need-returns-2
 returns-2 c R e =
     let b = c .before .before .before .before .before .before .before .before .before .before .before .before .before .before .before .before .before in

@@ -7,23 +7,18 @@ use borrow.Author.Needs.{needs}
 use Rattle.run_loop.proofs.conclude.Statement.{statement}
 use Rattle.run_loop.proofs.conclude.Tie as tie
 
--- src/lib.rt:160:5
 slice-write-m : tie.Need-slice-write-m
 slice-write-m c = search needs
 
--- src/lib.rt:161:5
 slice-write-m-2 : tie.Need-slice-write-m-2
 slice-write-m-2 c = simp length-set (omega arith)
 
--- src/lib.rt:162:5
 finish-requires : tie.Need-finish-requires
 finish-requires c κs = search needs
 
--- src/lib.rt:156:1
 same-length : tie.Need-same-length
 same-length c = c .before .before .finish .kept .0 ∙ simp length-set
 
--- src/lib.rt:156:1
 returns : tie.Need-returns
 returns c P R e = let b = c .before .before .before .before .before in rw (sub-zero (b .args .allowed)) at (c .before .before .finish .ensures P R (cleared _ _ R tt e))
 

@@ -7,23 +7,18 @@ use borrow.Author.Needs.{needs}
 use Rattle.run_loop.proofs.finish.Statement.{statement}
 use Rattle.run_loop.proofs.finish.Tie as tie
 
--- src/lib.rt:99:9
 put-rest-requires : tie.Need-put-rest-requires
 put-rest-requires c κs = search needs
 
--- src/lib.rt:101:37
 signed-requires : tie.Need-signed-requires
 signed-requires c κs = search needs
 
--- src/lib.rt:102:20
 add-t11 : tie.Need-add-t11
 add-t11 c = search needs
 
--- src/lib.rt:100:9
 same-length : tie.Need-same-length
 same-length c = search needs
 
--- src/lib.rt:100:9
 returns : tie.Need-returns
 returns c P R cl =
     let b = c .before .before .before .before .before .before .before in
@@ -31,15 +26,12 @@ returns c P R cl =
     (ends-step P (b .args .allowed) (b .args .steps) _ _ machine.Rule.value (c .before .before .before .before .before .if1 .taken) refl refl
     (ends-value P (b .args .allowed) _ _ _ R (c .before .before .before .put-rest .ensures _ R cl (value-rests _))))
 
--- src/lib.rt:105:5
 put-rest-requires-2 : tie.Need-put-rest-requires-2
 put-rest-requires-2 c κs = search needs
 
--- src/lib.rt:94:1
 same-length-2 : tie.Need-same-length-2
 same-length-2 c = search needs
 
--- src/lib.rt:94:1
 returns-2 : tie.Need-returns-2
 returns-2 c P R cl = let b = c .before .before .before .before .before .before in ends-returned P (b .args .allowed) _ _ _ R (c .before .before .before .before .if1 .left) (c .before .before .put-rest2 .ensures _ R cl (returned-rests _))
 

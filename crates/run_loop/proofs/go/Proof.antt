@@ -6,12 +6,12 @@ use native.Mathlib.Omega.{arith}
 use borrow.Author.Needs.{needs}
 use lib.ListN.{length}
 use Rattle.spec_machine.specs.Values.{Value}
-use Rattle.spec_machine.specs.Machine.{Frame, Saved, calm, running}
+use Rattle.spec_machine.specs.Machine.{Frame, Saved, emptyEnv, running}
 use Rattle.spec_machine.specs.Fit.{Fit}
 use Rattle.spec_machine.specs.File.{programOf}
 use Rattle.spec_image.specs.Core.{core}
 use Rattle.state_words.specs.Meaning.{controlIs}
-use Rattle.run_rules.specs.Comes.{Tells}
+use Rattle.run_rules.specs.StepsTo.{Describes}
 use Rattle.run_loop.proofs.Reaching.{Reached, reached, reached-stands, reached-on, reached-full, reached-returned, reached-arith, reached-abort, reached-bounds}
 use Rattle.run_loop.proofs.go.Statement.{statement}
 use Rattle.run_loop.proofs.go.Tie as tie
@@ -19,17 +19,15 @@ use Rattle.run_loop.proofs.go.Tie as tie
 abbrev Inv-loop : tie.InvT-loop
 Inv-loop file starts m₀ taken allowed c₀ h₀ steps₀ m c h steps =
     (steps ≤ allowed) × (length m ≡ length m₀)
-    × ((f : ℕ) (η : List Value) (K : List Frame) (A : List Saved) (R : List ℕ) → m₀ ≡ core f η K A ++ R → Tells file h₀ f K A
-    → Fit (programOf file) (running (controlIs c₀) calm f η K A) → Reached file allowed taken (running (controlIs c₀) calm f η K A) steps c h m R)
+    × ((f : ℕ) (η : List Value) (K : List Frame) (A : List Saved) (R : List ℕ) → m₀ ≡ core f η K A ++ R → Describes file h₀ f K A
+    → Fit (programOf file) (running (controlIs c₀) emptyEnv f η K A) → Reached file allowed taken (running (controlIs c₀) emptyEnv f η K A) steps c h m R)
 
 abbrev μ-loop : tie.MeasureT-loop
 μ-loop file starts m₀ taken allowed c₀ h₀ steps₀ m c h steps = allowed - steps
 
--- src/lib.rt:139:5
 loop-holds : tie.Need-loop-holds Inv-loop μ-loop
 loop-holds c = (c .before .before .pre .2, refl, λ f η K A R e t q. reached _ _ _ _ _ _ R f η K A e t q)
 
--- src/lib.rt:140:15
 step-requires : tie.Need-step-requires Inv-loop μ-loop
 step-requires c κs =
     let b = c .before .before .before .before .before in
@@ -39,19 +37,15 @@ step-requires c κs =
     let q = reached-stands _ (b .args .starts .now) _ _ _ _ _ _ _ _ (z .passed) (z .starts) r in
     (q, omega (arith, l .inv .1, b .pre .1))
 
--- src/lib.rt:141:27
 enum-known-next : tie.Need-enum-known-next Inv-loop μ-loop
 enum-known-next c = search needs
 
--- src/lib.rt:144:17
 add-steps : tie.Need-add-steps Inv-loop μ-loop
 add-steps c = search needs
 
--- src/lib.rt:139:5
 loop-less : tie.Need-loop-less Inv-loop μ-loop
 loop-less c = search needs
 
--- src/lib.rt:139:5
 loop-again : tie.Need-loop-again Inv-loop μ-loop
 loop-again c = (
   omega (arith, c .before .before .before .before .before .before .before .loop-test .taken),
@@ -65,11 +59,9 @@ loop-again c = (
       reached-on _ (λ i. c .before .before .before .before .before .before .before .before .before .before .shared-slice-known .given i .fits) (z .passed) _ _ _ _ _ _ _ _ R (c .before .before .before .before .before .before .before .loop-test .taken) r _ _ (rw (c .before .next .given .1) at d),
 )
 
--- src/lib.rt:146:42
 enum-told : tie.Need-enum-told Inv-loop μ-loop
 enum-told c = search needs
 
--- src/lib.rt:146:30
 stop-requires : tie.Need-stop-requires Inv-loop μ-loop
 stop-requires c κs =
     let b = c .before .before .before .before .before .before .before .before .before .before .before in
@@ -79,11 +71,9 @@ stop-requires c κs =
     let w = reached-bounds _ _ _ _ _ _ _ _ _ r (omega (arith, l .inv .1, b .pre .1)) in
     (omega (arith, c .before .before .before .before .before .step .kept .1 .1 .0, l .inv .1, b .pre .1), w .1, w .2)
 
--- src/lib.rt:146:30
 same-length : tie.Need-same-length Inv-loop μ-loop
 same-length c = search needs
 
--- src/lib.rt:146:30
 returns : tie.Need-returns Inv-loop μ-loop
 returns c f η K A R e t fit =
     let b = c .before .before .before .before .before .before .before .before .before .before .before .before .before .before in
@@ -94,23 +84,18 @@ returns c f η K A R e t fit =
     let o = c .before .before .stop .ensures in
     rw (o .0, o .1) (reached-full _ (λ i. c .before .before .before .before .before .before .before .before .before .before .before .before .before .shared-slice-known .given i .fits) (z .passed) _ _ _ _ _ _ _ _ R (c .before .before .before .before .before .before .before .before .before .before .loop-test .taken) r (rw (c .before .before .before .before .enum-told .given .1) at d) _ (λ i. o .2 (b .args .file .now) (r .function) (r .variables) (r .frames) (r .callers) R (i ∙ r .held) (r .tells)))
 
--- src/lib.rt:147:31
 enum-known-word : tie.Need-enum-known-word Inv-loop μ-loop
 enum-known-word c = search needs
 
--- src/lib.rt:147:63
 add-finish : tie.Need-add-finish Inv-loop μ-loop
 add-finish c = search needs
 
--- src/lib.rt:147:40
 finish-requires : tie.Need-finish-requires Inv-loop μ-loop
 finish-requires c κs = search needs
 
--- src/lib.rt:147:40
 same-length-2 : tie.Need-same-length-2 Inv-loop μ-loop
 same-length-2 c = search needs
 
--- src/lib.rt:147:40
 returns-2 : tie.Need-returns-2 Inv-loop μ-loop
 returns-2 c f η K A R e t fit =
     let b = c .before .before .before .before .before .before .before .before .before .before .before .before .before .before .before in
@@ -120,23 +105,18 @@ returns-2 c f η K A R e t fit =
     let d = c .before .before .before .before .before .before .before .before .before .step .ensures (r .function) (r .variables) (r .frames) (r .callers) R (r .held) (r .tells) (r .fit) in
     reached-returned _ (λ i. c .before .before .before .before .before .before .before .before .before .before .before .before .before .before .shared-slice-known .given i .fits) (z .passed) _ _ _ _ _ _ _ _ R (c .before .before .before .before .before .before .before .before .before .before .before .loop-test .taken) r _ (rw (c .before .before .before .before .before .word .given .1) at d) _ _ _ (λ i. c .before .before .finish .ensures _ R i)
 
--- src/lib.rt:148:43
 enum-told-2 : tie.Need-enum-told-2 Inv-loop μ-loop
 enum-told-2 c = search needs
 
--- src/lib.rt:148:65
 add-fail : tie.Need-add-fail Inv-loop μ-loop
 add-fail c = search needs
 
--- src/lib.rt:148:31
 fail-requires : tie.Need-fail-requires Inv-loop μ-loop
 fail-requires c κs = search needs
 
--- src/lib.rt:148:31
 same-length-3 : tie.Need-same-length-3 Inv-loop μ-loop
 same-length-3 c = search needs
 
--- src/lib.rt:148:31
 returns-3 : tie.Need-returns-3 Inv-loop μ-loop
 returns-3 c f η K A R e t fit =
     let b = c .before .before .before .before .before .before .before .before .before .before .before .before .before .before in
@@ -147,23 +127,18 @@ returns-3 c f η K A R e t fit =
     let o = c .before .before .fail .ensures in
     rw (o .0, o .1) (reached-arith _ (λ i. c .before .before .before .before .before .before .before .before .before .before .before .before .before .shared-slice-known .given i .fits) (z .passed) _ _ _ _ _ _ _ _ R (c .before .before .before .before .before .before .before .before .before .before .loop-test .taken) r (rw (c .before .before .before .before .enum-told2 .given .1) at d) _ (λ i. o .2 _ R i arith-rests))
 
--- src/lib.rt:149:43
 enum-told-3 : tie.Need-enum-told-3 Inv-loop μ-loop
 enum-told-3 c = search needs
 
--- src/lib.rt:149:65
 add-fail-2 : tie.Need-add-fail-2 Inv-loop μ-loop
 add-fail-2 c = search needs
 
--- src/lib.rt:149:31
 fail-requires-2 : tie.Need-fail-requires-2 Inv-loop μ-loop
 fail-requires-2 c κs = search needs
 
--- src/lib.rt:149:31
 same-length-4 : tie.Need-same-length-4 Inv-loop μ-loop
 same-length-4 c = search needs
 
--- src/lib.rt:149:31
 returns-4 : tie.Need-returns-4 Inv-loop μ-loop
 returns-4 c f η K A R e t fit =
     let b = c .before .before .before .before .before .before .before .before .before .before .before .before .before .before in
@@ -174,7 +149,6 @@ returns-4 c f η K A R e t fit =
     let o = c .before .before .fail2 .ensures in
     rw (o .0, o .1) (reached-abort _ (λ i. c .before .before .before .before .before .before .before .before .before .before .before .before .before .shared-slice-known .given i .fits) (z .passed) _ _ _ _ _ _ _ _ R (c .before .before .before .before .before .before .before .before .before .before .loop-test .taken) r (rw (c .before .before .before .before .enum-told3 .given .1) at d) _ (λ i. o .2 _ R i abort-rests))
 
--- src/lib.rt:152:5
 stop-requires-2 : tie.Need-stop-requires-2 Inv-loop μ-loop
 stop-requires-2 c κs =
     let b = c .before .before .before .before .before in
@@ -183,11 +157,9 @@ stop-requires-2 c κs =
     let r = l .inv .2 (b .args .head .function) (z .variables) (z .frames) (z .callers) (z .rest) (z .held) (z .tells) (z .fit) in
     reached-bounds _ _ _ _ _ _ _ _ _ r (omega (arith, l .inv .1, b .pre .1))
 
--- src/lib.rt:132:1
 same-length-5 : tie.Need-same-length-5 Inv-loop μ-loop
 same-length-5 c = search needs
 
--- src/lib.rt:132:1
 returns-5 : tie.Need-returns-5 Inv-loop μ-loop
 returns-5 c f η K A R e t fit =
     let b = c .before .before .before .before .before .before .before .before in

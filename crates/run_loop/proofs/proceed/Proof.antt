@@ -9,82 +9,63 @@ use borrow.Author.Needs.{needs}
 use Rattle.run_loop.proofs.proceed.Statement.{statement}
 use Rattle.run_loop.proofs.proceed.Tie as tie
 
--- src/lib.rt:199:18
 starts-of-requires : tie.Need-starts-of-requires
 starts-of-requires c κs = file-laid (c .before .before .args .file .now) (c .before .before .pre .0 .passed)
 
--- src/lib.rt:200:19
 slice-read-callers : tie.Need-slice-read-callers
 slice-read-callers c = search needs
 
--- src/lib.rt:200:19
 cast-callers : tie.Need-cast-callers
 cast-callers c = let b = c .before .before .before .before in let p = b .pre .0 in omega (arith, resumed-count (b .args .file .now) (p .passed) (b .args .m .now) (p .control) (p .function) (p .variables) (p .frames) (p .callers) (p .rest) (p .held) (p .fit), resumed-few (b .args .file .now) (p .passed) (b .args .m .now) (p .control) (p .function) (p .variables) (p .frames) (p .callers) (p .rest) (p .held) (p .fit))
 
--- src/lib.rt:200:19
 sub-callers : tie.Need-sub-callers
 sub-callers c = let b = c .before .before .before .before in let p = b .pre .0 in omega (arith, resumed-count (b .args .file .now) (p .passed) (b .args .m .now) (p .control) (p .function) (p .variables) (p .frames) (p .callers) (p .rest) (p .held) (p .fit))
 
--- src/lib.rt:201:31
 slice-read-control-of : tie.Need-slice-read-control-of
 slice-read-control-of c = search needs
 
--- src/lib.rt:201:37
 slice-read-control-of-2 : tie.Need-slice-read-control-of-2
 slice-read-control-of-2 c = search needs
 
--- src/lib.rt:201:9
 control-of-requires : tie.Need-control-of-requires
 control-of-requires c κs = search needs
 
--- src/lib.rt:202:20
 activation-word-requires : tie.Need-activation-word-requires
 activation-word-requires c κs = let b = c .before .before .before .before .before .before .before .before in let p = b .pre .0 in (b .pre .1, omega (arith, resumed-count (b .args .file .now) (p .passed) (b .args .m .now) (p .control) (p .function) (p .variables) (p .frames) (p .callers) (p .rest) (p .held) (p .fit), resumed-few (b .args .file .now) (p .passed) (b .args .m .now) (p .control) (p .function) (p .variables) (p .frames) (p .callers) (p .rest) (p .held) (p .fit)), omega arith)
 
--- src/lib.rt:202:20
 cast-function : tie.Need-cast-function
 cast-function c = search needs
 
--- src/lib.rt:203:18
 activation-word-requires-2 : tie.Need-activation-word-requires-2
 activation-word-requires-2 c κs = let b = c .before .before .before .before .before .before .before .before .before .before in let p = b .pre .0 in (b .pre .1, omega (arith, resumed-count (b .args .file .now) (p .passed) (b .args .m .now) (p .control) (p .function) (p .variables) (p .frames) (p .callers) (p .rest) (p .held) (p .fit), resumed-few (b .args .file .now) (p .passed) (b .args .m .now) (p .control) (p .function) (p .variables) (p .frames) (p .callers) (p .rest) (p .held) (p .fit)), omega arith)
 
--- src/lib.rt:203:18
 cast-frames : tie.Need-cast-frames
 cast-frames c = search needs
 
--- src/lib.rt:204:43
 add-frames-held : tie.Need-add-frames-held
 add-frames-held c = let b = c .before .before .before .before .before .before .before .before .before .before .before .before in let p = b .pre .0 in omega (arith, resumed-count (b .args .file .now) (p .passed) (b .args .m .now) (p .control) (p .function) (p .variables) (p .frames) (p .callers) (p .rest) (p .held) (p .fit), resumed-few (b .args .file .now) (p .passed) (b .args .m .now) (p .control) (p .function) (p .variables) (p .frames) (p .callers) (p .rest) (p .held) (p .fit))
 
--- src/lib.rt:204:9
 frames-held-requires : tie.Need-frames-held-requires
 frames-held-requires c κs = let b = c .before .before .before .before .before .before .before .before .before .before .before .before in let p = b .pre .0 in (b .pre .1, omega (arith, resumed-count (b .args .file .now) (p .passed) (b .args .m .now) (p .control) (p .function) (p .variables) (p .frames) (p .callers) (p .rest) (p .held) (p .fit), resumed-few (b .args .file .now) (p .passed) (b .args .m .now) (p .control) (p .function) (p .variables) (p .frames) (p .callers) (p .rest) (p .held) (p .fit)))
 
--- src/lib.rt:207:16
 mul-t14 : tie.Need-mul-t14
 mul-t14 c = search needs
 
--- src/lib.rt:207:16
 array-read-t26 : tie.Need-array-read-t26
 unfolding activationAt
 array-read-t26 c = let b = c .before .before .before .before .before .before .before .before .before .before .before .before .before in let p = b .pre .0 in omega (arith, c .before .before .before .before .activation-word .ensures, resumed-function (b .args .file .now) (p .passed) (b .args .m .now) (p .control) (p .function) (p .variables) (p .frames) (p .callers) (p .rest) (p .held) (p .fit) _ refl _ refl, resumed-known (b .args .file .now) (p .passed) (b .args .m .now) (p .control) (p .function) (p .variables) (p .frames) (p .callers) (p .rest) (p .held) (p .fit), file-laid (b .args .file .now) (p .passed) .few)
 
--- src/lib.rt:208:16
 count-of-requires : tie.Need-count-of-requires
 unfolding activationAt
 count-of-requires c κs = let b = c .before .before .before .before .before .before .before .before .before .before .before .before .before in let p = b .pre .0 in omega (arith, c .before .before .before .before .activation-word .ensures, resumed-function (b .args .file .now) (p .passed) (b .args .m .now) (p .control) (p .function) (p .variables) (p .frames) (p .callers) (p .rest) (p .held) (p .fit) _ refl _ refl, resumed-known (b .args .file .now) (p .passed) (b .args .m .now) (p .control) (p .function) (p .variables) (p .frames) (p .callers) (p .rest) (p .held) (p .fit), file-laid (b .args .file .now) (p .passed) .heads)
 
--- src/lib.rt:211:16
 sub-t28 : tie.Need-sub-t28
 unfolding activationAt
 sub-t28 c = let b = c .before .before .before .before .before .before .before .before .before .before .before .before .before .before in let p = b .pre .0 in omega (arith, c .before .before .before .activation-word2 .ensures, resumed-frames (b .args .file .now) (p .passed) (b .args .m .now) (p .control) (p .function) (p .variables) (p .frames) (p .callers) (p .rest) (p .held) (p .fit) _ refl _ refl, c .before .frames-held .ensures, resumed-total (b .args .file .now) (p .passed) (b .args .m .now) (p .control) (p .function) (p .variables) (p .frames) (p .callers) (p .rest) (p .held) (p .fit) _ refl)
 
--- src/lib.rt:213:5
 clear-head-requires : tie.Need-clear-head-requires
 clear-head-requires c κs = let b = c .before .before .before .before .before .before .before .before .before .before .before .before .before .before .before in let p = b .pre .0 in (b .pre .1, omega (arith, resumed-count (b .args .file .now) (p .passed) (b .args .m .now) (p .control) (p .function) (p .variables) (p .frames) (p .callers) (p .rest) (p .held) (p .fit), resumed-few (b .args .file .now) (p .passed) (b .args .m .now) (p .control) (p .function) (p .variables) (p .frames) (p .callers) (p .rest) (p .held) (p .fit)))
 
--- src/lib.rt:214:5
 go-requires : tie.Need-go-requires
 unfolding activationAt
 go-requires c κs =
@@ -99,11 +80,9 @@ go-requires c κs =
       omega arith,
     )
 
--- src/lib.rt:195:1
 same-length : tie.Need-same-length
 same-length c = search needs
 
--- src/lib.rt:195:1
 returns : tie.Need-returns
 unfolding activationAt
 returns c k f η K A R e fit =

@@ -5,19 +5,15 @@ use borrow.Author.Needs.{needs}
 use Rattle.run_loop.proofs.put_rest.Statement.{statement}
 use Rattle.run_loop.proofs.put_rest.Tie as tie
 
--- src/lib.rt:89:5
 slice-write-m : tie.Need-slice-write-m
 slice-write-m c = search needs
 
--- src/lib.rt:90:5
 slice-write-m-2 : tie.Need-slice-write-m-2
 slice-write-m-2 c = simp length-set (omega arith)
 
--- src/lib.rt:85:1
 same-length : tie.Need-same-length
 same-length c = search needs
 
--- src/lib.rt:85:1
 returns : tie.Need-returns
 returns c s R cl r = rest-stored s (c .args .m .now) R _ _ cl r
 

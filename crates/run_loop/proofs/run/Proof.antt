@@ -5,63 +5,48 @@ use borrow.Author.Needs.{needs}
 use Rattle.run_loop.proofs.run.Statement.{statement}
 use Rattle.run_loop.proofs.run.Tie as tie
 
--- src/lib.rt:222:15
 slice-read-tag : tie.Need-slice-read-tag
 slice-read-tag c = search needs
 
--- src/lib.rt:223:16
 slice-read-word : tie.Need-slice-read-word
 slice-read-word c = search needs
 
--- src/lib.rt:225:14
 begin-requires : tie.Need-begin-requires
 begin-requires c κs = let b = c .before .before .before .before .before .before in (begins _ _ (b .pre .0) (c .before .match .keys1), b .pre .1)
 
--- src/lib.rt:226:14
 proceed-requires : tie.Need-proceed-requires
 proceed-requires c κs = let b = c .before .before .before .before .before .before in (proceeds _ _ (b .pre .0) (c .before .match .keys2), b .pre .1)
 
--- src/lib.rt:227:14
 conclude-requires : tie.Need-conclude-requires
 conclude-requires c κs = search needs
 
--- src/lib.rt:229:37
 signed-requires : tie.Need-signed-requires
 signed-requires c κs = search needs
 
--- src/lib.rt:218:1
 same-length : tie.Need-same-length
 same-length c = search needs
 
--- src/lib.rt:218:1
 returns : tie.Need-returns
 returns c s R e fit = at-main _ _ _ _ _ _ R s e fit (c .before .before .before .before .match .keys1) (λ i. c .before .before .begin .ensures R i)
 
--- src/lib.rt:218:1
 same-length-2 : tie.Need-same-length-2
 same-length-2 c = search needs
 
--- src/lib.rt:218:1
 returns-2 : tie.Need-returns-2
 returns-2 c s R e fit = at-running _ _ _ _ _ _ R s e fit (c .before .before .before .before .match .keys2) (λ k f η K A i j. c .before .before .proceed .ensures k f η K A R i j)
 
--- src/lib.rt:218:1
 same-length-3 : tie.Need-same-length-3
 same-length-3 c = search needs
 
--- src/lib.rt:218:1
 returns-3 : tie.Need-returns-3
 returns-3 c s R e fit = at-returned _ _ _ _ _ _ R s e fit (c .before .before .before .before .match .keys3) (λ k i j. rw i (c .before .before .conclude .ensures _ R (rw i at j)))
 
--- src/lib.rt:218:1
 returns-4 : tie.Need-returns-4
 returns-4 c s R e fit = let b = c .before .before .before .before .before .before in rw (toZ-ofZ w32 (c .signed .result) (record { sfits = c .signed .ok }), c .signed .ensures) (at-value (b .args .file .now) (b .args .m .now) _ R s e (c .before .match .keys4))
 
--- src/lib.rt:218:1
 returns-5 : tie.Need-returns-5
 returns-5 c s R e fit = let b = c .before .before .before .before .before in at-arith (b .args .file .now) (b .args .m .now) _ R s e (c .match .keys5)
 
--- src/lib.rt:218:1
 returns-6 : tie.Need-returns-6
 returns-6 c s R e fit = let b = c .before .before .before .before .before in let r = c .match .rest in at-abort (b .args .file .now) (b .args .m .now) _ R s e (r .0 .0 .0 .0 .1) (r .0 .0 .0 .1) (r .0 .0 .1) (r .0 .1) (r .1)
 

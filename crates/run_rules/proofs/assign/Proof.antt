@@ -1,5 +1,5 @@
 use Rattle.spec_machine.specs.Program.{Ref}
-use Rattle.spec_machine.specs.Machine.{exec, calm}
+use Rattle.spec_machine.specs.Machine.{exec, emptyEnv}
 use Rattle.run_rules.proofs.Steps.{rebased, within-yes}
 use mathlib.Core.List.{_∷_}
 use native.Mathlib.Omega.{arith}
@@ -9,24 +9,20 @@ use borrow.Author.Needs.{needs}
 use Rattle.run_rules.proofs.assign.Statement.{statement}
 use Rattle.run_rules.proofs.assign.Tie as tie
 
--- src/lib.rt:99:5
 set-variable-requires : tie.Need-set-variable-requires
 set-variable-requires c κs = search needs
 
--- src/lib.rt:100:5
 take-off-requires : tie.Need-take-off-requires
 take-off-requires c κs = search needs
 
--- src/lib.rt:95:1
 same-length : tie.Need-same-length
 same-length c = search needs
 
--- src/lib.rt:95:1
 returns : tie.Need-returns
 unfolding controlIs refOf
 returns c s f η fr K A R e t x w =
     let q = c .before .before .before .before .before .before .before .before .before .pre in
-    rebased s _ _ _ _ R _ (within-yes (exec Ref.nop) calm f η K A (omega (arith, t .callers, q .0 .1)) (omega (arith, t .frames, t .under, q .0 .2)))
+    rebased s _ _ _ _ R _ (within-yes (exec Ref.nop) emptyEnv f η K A (omega (arith, t .callers, q .0 .1)) (omega (arith, t .frames, t .under, q .0 .2)))
     (c .before .before .take-off .ensures s f _ fr K A R (c .before .before .before .before .before .before .set-variable .ensures f η (fr ∷ K) A R e (t .callers) x w) t)
 
 pub assign-spec : {M : Type 1} → statement M

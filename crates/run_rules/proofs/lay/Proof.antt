@@ -5,27 +5,21 @@ use borrow.Author.Needs.{needs}
 use Rattle.run_rules.proofs.lay.Statement.{statement}
 use Rattle.run_rules.proofs.lay.Tie as tie
 
--- src/lib.rt:47:13
 add-n : tie.Need-add-n
 add-n c = search needs
 
--- src/lib.rt:49:9
 returns : tie.Need-returns
 returns c s f η fr K A R e t w = full s _ _ _ R f η fr K A t (search needs)
 
--- src/lib.rt:51:5
 push-requires : tie.Need-push-requires
 push-requires c κs = search needs
 
--- src/lib.rt:59:21
 add-t12 : tie.Need-add-t12
 add-t12 c = search needs
 
--- src/lib.rt:43:1
 same-length : tie.Need-same-length
 same-length c = search needs
 
--- src/lib.rt:43:1
 returns-2 : tie.Need-returns-2
 returns-2 c s f η fr K A R e t w =
     on s _ _ _ _ R f η (fr ∷ K) A (c .before .before .before .push .ensures f η fr K A R e (omega (arith, t .callers, c .before .before .before .before .before .before .before .before .pre .1)) (counted t) w)

@@ -4,23 +4,18 @@ use borrow.Author.Needs.{needs}
 use Rattle.run_rules.proofs.supply.Statement.{statement}
 use Rattle.run_rules.proofs.supply.Tie as tie
 
--- src/lib.rt:108:18
 sub-frames : tie.Need-sub-frames
 sub-frames c = search needs
 
--- src/lib.rt:109:24
 add-gain : tie.Need-add-gain
 add-gain c = search needs
 
--- src/lib.rt:109:5
 gain-requires : tie.Need-gain-requires
 gain-requires c κs = search needs
 
--- src/lib.rt:104:1
 same-length : tie.Need-same-length
 same-length c = search needs
 
--- src/lib.rt:104:1
 returns : tie.Need-returns
 returns c s f η g vs d ns K A R e t w y z =
     let q = c .before .before .before .before .before .before .before .pre in

@@ -4,23 +4,18 @@ use borrow.Author.Needs.{needs}
 use Rattle.run_rules.proofs.take_off.Statement.{statement}
 use Rattle.run_rules.proofs.take_off.Tie as tie
 
--- src/lib.rt:70:18
 sub-frames : tie.Need-sub-frames
 sub-frames c = search needs
 
--- src/lib.rt:71:23
 add-pop : tie.Need-add-pop
 add-pop c = search needs
 
--- src/lib.rt:71:5
 pop-requires : tie.Need-pop-requires
 pop-requires c κs = search needs
 
--- src/lib.rt:66:1
 same-length : tie.Need-same-length
 same-length c = search needs
 
--- src/lib.rt:66:1
 returns : tie.Need-returns
 returns c s f η fr K A R e t =
     let q = c .before .before .before .before .before .before .before .pre in

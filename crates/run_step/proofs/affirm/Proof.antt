@@ -1,7 +1,7 @@
 use mathlib.Core.Path.{refl}
 use mathlib.Core.List.{_∷_}
 use native.Mathlib.Omega.{arith}
-use Rattle.run_rules.specs.Comes.{Comes}
+use Rattle.run_rules.specs.StepsTo.{StepsTo}
 use Rattle.spec_image.specs.Decode.{refOf}
 use Rattle.state_words.specs.Meaning.{valueIs, controlIs}
 use Rattle.run_rules.proofs.Steps.{counted}
@@ -10,42 +10,33 @@ use borrow.Author.Needs.{needs}
 use Rattle.run_step.proofs.affirm.Statement.{statement}
 use Rattle.run_step.proofs.affirm.Tie as tie
 
--- src/lib.rt:100:22
 enum-known-v : tie.Need-enum-known-v
 enum-known-v c = search needs
 
--- src/lib.rt:101:9
 unreachable-requires : tie.Need-unreachable-requires
 unreachable-requires c κs = truth-only (c .before .before .args .v) (c .before .before .pre .2) (c .match .keys2)
 
--- src/lib.rt:101:9
 returns : tie.Need-returns
 returns c = search needs
 
--- src/lib.rt:104:9
 take-off-requires : tie.Need-take-off-requires
 take-off-requires c κs = search needs
 
--- src/lib.rt:106:9
 raise-requires : tie.Need-raise-requires
 raise-requires c κs = search needs
 
--- src/lib.rt:96:1
 same-length : tie.Need-same-length
 same-length c = search needs
 
--- src/lib.rt:96:1
 returns-2 : tie.Need-returns-2
 unfolding valueIs controlIs refOf
 returns-2 c s p q f η fr K A R e t = rw (c .before .before .before .before .before .before .v .given .1, c .before .before .before .before .if1 .taken) (c .before .before .take-off .ensures s f η fr K A R e t)
 
--- src/lib.rt:96:1
 same-length-2 : tie.Need-same-length-2
 same-length-2 c = search needs
 
--- src/lib.rt:96:1
 returns-3 : tie.Need-returns-3
-unfolding valueIs Comes
+unfolding valueIs StepsTo
 returns-3 c s p q f η fr K A R e t =
     let b = c .before .before .before .before .before .before .before .before .before in
     rw (c .before .before .before .before .before .before .v .given .1, c .before .before .before .before .if1 .left, c .before .before .raise .ensures .0)

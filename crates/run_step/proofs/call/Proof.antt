@@ -11,38 +11,30 @@ use borrow.Author.Needs.{needs}
 use Rattle.run_step.proofs.call.Statement.{statement}
 use Rattle.run_step.proofs.call.Tie as tie
 
--- src/lib.rt:157:9
 b-at-requires : tie.Need-b-at-requires
 b-at-requires c κs = search needs
 
--- src/lib.rt:158:18
 a-at-requires : tie.Need-a-at-requires
 a-at-requires c κs = search needs
 
--- src/lib.rt:158:9
 wide-requires : tie.Need-wide-requires
 wide-requires c κs = search needs
 
--- src/lib.rt:160:9
 enter-none-requires : tie.Need-enter-none-requires
 enter-none-requires c κs = let p = c .before .before .before .before .before .before .before .before .pre in (p .0, p .1, rw (c .before .before .before .before .b-at .ensures) (p .2 .callee (p .3)))
 
--- src/lib.rt:160:9
 same-length : tie.Need-same-length
 same-length c = search needs
 
--- src/lib.rt:160:9
 returns : tie.Need-returns
 returns c f η K A R e t part p =
     let b = c .before .before .before .before .before .before .before .before .before .before .before in
     let a = sym (c .before .before .before .before .before .wide .ensures .0 ∙ c .before .before .before .before .before .before .a-at .ensures) ∙ c .before .before .before .before .if1 .taken in
     none-done _ _ _ _ _ R f η K A _ _ (b .pre .3) a (c .before .before .before .before .before .before .before .b-at .ensures) (c .before .before .enter-none .ensures f η K A R e t (rw (c .before .before .before .before .before .before .before .b-at .ensures) (p ∙ a)))
 
--- src/lib.rt:162:46
 sub-gather : tie.Need-sub-gather
 sub-gather c = let q = c .before .before .before .before .before .before .before .before .pre in let k = pos (c .before .if1 .left) in q .2 .child (rw (arity-call _ _ (q .3), ← (c .before .before .wide .ensures .0 ∙ c .before .before .before .a-at .ensures)) k)
 
--- src/lib.rt:162:5
 gather-requires : tie.Need-gather-requires
 gather-requires c κs =
     let q = c .before .before .before .before .before .before .before .before .pre in
@@ -52,11 +44,9 @@ gather-requires c κs =
     let n = q .2 .few in
     (q .0, k, rw w (q .2 .arguments (q .3)), omega (arith, i), omega (arith, n))
 
--- src/lib.rt:153:1
 same-length-2 : tie.Need-same-length-2
 same-length-2 c = search needs
 
--- src/lib.rt:153:1
 returns-2 : tie.Need-returns-2
 returns-2 c f η K A R e t part p =
     let b = c .before .before .before .before .before .before .before .before .before .before .before in

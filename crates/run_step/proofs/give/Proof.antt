@@ -8,27 +8,24 @@ use Rattle.spec_image.specs.Decode.{refOf}
 use Rattle.state_words.specs.Meaning.{valueIs, controlIs}
 use Rattle.run_rules.proofs.Steps.{counted-under}
 use Rattle.run_step.proofs.Views.{is-operator, is-call, is-and, is-wait, is-store, is-branch, is-leave, is-assert, is-discard}
-use Rattle.run_step.proofs.Given.{over, limited, framed, bounded, few, under, operate-ready, operand-ready, enter-ready, and-ready, store-ready, leave-main-ready, leave-ready, branch-ready, part-inside}
-use Rattle.run_step.proofs.Gave.{gave-operator, gave-next, gave-call, gave-and, gave-store, gave-branch, gave-leave, gave-assert, gave-discard}
+use Rattle.run_step.proofs.GiveNeeds.{over, limited, framed, bounded, few, under, operate-ready, operand-ready, enter-ready, and-ready, store-ready, leave-main-ready, leave-ready, branch-ready, part-inside}
+use Rattle.run_step.proofs.GiveResult.{gave-operator, gave-next, gave-call, gave-and, gave-store, gave-branch, gave-leave, gave-assert, gave-discard}
 use borrow.Author.Needs.{needs}
 use Rattle.run_step.proofs.give.Statement.{statement}
 use Rattle.run_step.proofs.give.Tie as tie
 
--- src/lib.rt:273:18
 sub-frames : tie.Need-sub-frames
 sub-frames c =
     let b = c .before .before .before .before in
     let x = over (b .args .file .now) (b .args .starts .now) (valueIs (b .args .v)) (b .args .h) (b .args .m .now) (b .pre .0) in
     framed (b .args .file .now) (b .args .starts .now) (b .args .v) (b .args .h) (b .args .m .now) x
 
--- src/lib.rt:274:38
 add-top-frame : tie.Need-add-top-frame
 add-top-frame c =
     let b = c .before .before .before .before .before .before in
     let x = over (b .args .file .now) (b .args .starts .now) (valueIs (b .args .v)) (b .args .h) (b .args .m .now) (b .pre .0) in
     record { fits = omega (arith, bounded (b .args .file .now) (b .args .starts .now) (b .args .v) (b .args .h) (b .args .m .now) x (b .pre .2) .2) }
 
--- src/lib.rt:274:9
 top-frame-requires : tie.Need-top-frame-requires
 top-frame-requires c κs =
     let b = c .before .before .before .before .before .before in
@@ -36,11 +33,9 @@ top-frame-requires c κs =
     let q = bounded (b .args .file .now) (b .args .starts .now) (b .args .v) (b .args .h) (b .args .m .now) x (b .pre .2) in
     (q .0, omega (arith, q .2, framed (b .args .file .now) (b .args .starts .now) (b .args .v) (b .args .h) (b .args .m .now) x))
 
--- src/lib.rt:276:23
 enum-known-top : tie.Need-enum-known-top
 enum-known-top c = search needs
 
--- src/lib.rt:278:17
 operate-requires : tie.Need-operate-requires
 operate-requires c κs =
     let b = c .before .before .before .before .before .before .before .before .before .before .before .before in
@@ -49,11 +44,9 @@ operate-requires c κs =
     let r = operate-ready (b .args .file .now) (b .args .starts .now) (b .args .v) (b .args .h) (b .args .m .now) x _ _ _ (is-operator _ _ v _ _ _ (c .before .before .before .top .given .1)) (c .before .if1 .taken) in
     (((bounded (b .args .file .now) (b .args .starts .now) (b .args .v) (b .args .h) (b .args .m .now) x (b .pre .2)), (framed (b .args .file .now) (b .args .starts .now) (b .args .v) (b .args .h) (b .args .m .now) x), r .0, omega (arith, x .starts .0 .heads)), (r .1, r .2))
 
--- src/lib.rt:278:17
 same-length : tie.Need-same-length
 same-length c = search needs
 
--- src/lib.rt:278:17
 returns : tie.Need-returns
 unfolding controlIs refOf valueIs
 returns c f η fr K A R e t fit =
@@ -63,7 +56,6 @@ returns c f η fr K A R e t fit =
     let w = c .before .before .before .before .before .before .before .before .top-frame .ensures f η fr K A R e (omega (arith, limited t fit .0, t .callers)) (counted-under t (b .args .h .frames - 1) (omega (arith, t .frames))) in
     gave-operator _ _ _ _ _ R f η fr K A _ p e t fit _ _ _ (is-operator _ _ w _ _ _ (c .before .before .before .before .before .before .top .given .1)) (c .before .before .before .before .if1 .taken) (λ i j k l n. c .before .before .operate .ensures f η i j K A R k l n)
 
--- src/lib.rt:280:13
 next-operand-requires : tie.Need-next-operand-requires
 unfolding programOf
 next-operand-requires c κs =
@@ -73,15 +65,12 @@ next-operand-requires c κs =
     let r = operand-ready (b .args .file .now) (b .args .starts .now) (b .args .v) (b .args .h) (b .args .m .now) x _ _ _ (is-operator _ _ v _ _ _ (c .before .before .before .top .given .1)) (c .before .if1 .left) in
     (((bounded (b .args .file .now) (b .args .starts .now) (b .args .v) (b .args .h) (b .args .m .now) x (b .pre .2)), (framed (b .args .file .now) (b .args .starts .now) (b .args .v) (b .args .h) (b .args .m .now) x), r .0, r .1), part-inside _ (b .args .starts .now) _ (b .args .h .function) _ (x .starts) (x .fit .proper .known) (b .pre .1) (r .2))
 
--- src/lib.rt:282:19
 enum-known-top-2 : tie.Need-enum-known-top-2
 enum-known-top-2 c = search needs
 
--- src/lib.rt:284:66
 cast-enter : tie.Need-cast-enter
 cast-enter c = search needs
 
--- src/lib.rt:284:17
 enter-requires : tie.Need-enter-requires
 enter-requires c κs =
     let b = c .before .before .before .before .before .before .before .before .before .before .before .before in
@@ -90,11 +79,9 @@ enter-requires c κs =
     let r = enter-ready (b .args .file .now) (b .args .starts .now) (b .args .v) (b .args .h) (b .args .m .now) x _ _ _ (is-call _ _ v _ _ _ (c .before .before .before .top2 .given .1)) (c .before .if2 .taken) in
     ((bounded (b .args .file .now) (b .args .starts .now) (b .args .v) (b .args .h) (b .args .m .now) x (b .pre .2)), (framed (b .args .file .now) (b .args .starts .now) (b .args .v) (b .args .h) (b .args .m .now) x), x .starts, r .0, r .1)
 
--- src/lib.rt:284:17
 same-length-2 : tie.Need-same-length-2
 same-length-2 c = search needs
 
--- src/lib.rt:284:17
 returns-2 : tie.Need-returns-2
 unfolding controlIs refOf valueIs
 returns-2 c f η fr K A R e t fit =
@@ -104,7 +91,6 @@ returns-2 c f η fr K A R e t fit =
     let w = c .before .before .before .before .before .before .before .before .top-frame .ensures f η fr K A R e (omega (arith, limited t fit .0, t .callers)) (counted-under t (b .args .h .frames - 1) (omega (arith, t .frames))) in
     gave-call _ _ _ _ _ R f η fr K A _ p e t fit _ _ _ (is-call _ _ w _ _ _ (c .before .before .before .before .before .before .top2 .given .1)) (c .before .before .before .before .if2 .taken) (λ vs k l n q r. c .before .before .enter .ensures f η _ vs K A R k l n q r)
 
--- src/lib.rt:286:13
 next-operand-requires-2 : tie.Need-next-operand-requires-2
 unfolding programOf
 next-operand-requires-2 c κs =
@@ -114,11 +100,9 @@ next-operand-requires-2 c κs =
     let r = operand-ready (b .args .file .now) (b .args .starts .now) (b .args .v) (b .args .h) (b .args .m .now) x _ _ _ (is-call _ _ v _ _ _ (c .before .before .before .top2 .given .1)) (c .before .if2 .left) in
     (((bounded (b .args .file .now) (b .args .starts .now) (b .args .v) (b .args .h) (b .args .m .now) x (b .pre .2)), (framed (b .args .file .now) (b .args .starts .now) (b .args .v) (b .args .h) (b .args .m .now) x), r .0, r .1), part-inside _ (b .args .starts .now) _ (b .args .h .function) _ (x .starts) (x .fit .proper .known) (b .pre .1) (r .2))
 
--- src/lib.rt:288:18
 enum-known-top-3 : tie.Need-enum-known-top-3
 enum-known-top-3 c = search needs
 
--- src/lib.rt:289:17
 reach-requires : tie.Need-reach-requires
 unfolding programOf
 reach-requires c κs =
@@ -128,7 +112,6 @@ reach-requires c κs =
     let r = and-ready (b .args .file .now) (b .args .starts .now) (b .args .v) (b .args .h) (b .args .m .now) x _ (is-and _ _ v _ (c .before .top3 .given .1)) in
     part-inside _ (b .args .starts .now) _ (b .args .h .function) _ (x .starts) (x .fit .proper .known) (b .pre .1) (r .1)
 
--- src/lib.rt:290:13
 choose-requires : tie.Need-choose-requires
 choose-requires c κs =
     let b = c .before .before .before .before .before .before .before .before .before .before .before .before in
@@ -136,7 +119,6 @@ choose-requires c κs =
     let v = c .before .before .before .before .before .top-frame .ensures _ (x .variables) (x .top) (x .frames) (x .callers) (x .rest) (x .held) (few (b .args .file .now) (b .args .starts .now) (b .args .v) (b .args .h) (b .args .m .now) x) (under (b .args .file .now) (b .args .starts .now) (b .args .v) (b .args .h) (b .args .m .now) x) in
     ((bounded (b .args .file .now) (b .args .starts .now) (b .args .v) (b .args .h) (b .args .m .now) x (b .pre .2)), (framed (b .args .file .now) (b .args .starts .now) (b .args .v) (b .args .h) (b .args .m .now) x), and-ready (b .args .file .now) (b .args .starts .now) (b .args .v) (b .args .h) (b .args .m .now) x _ (is-and _ _ v _ (c .before .before .before .top3 .given .1)) .0)
 
--- src/lib.rt:292:19
 enum-known-top-4 : tie.Need-enum-known-top-4
 enum-known-top-4 c = search needs
 
@@ -148,11 +130,9 @@ unreachable-requires c κs =
     let v = c .before .before .before .top-frame .ensures _ (x .variables) (x .top) (x .frames) (x .callers) (x .rest) (x .held) (few (b .args .file .now) (b .args .starts .now) (b .args .v) (b .args .h) (b .args .m .now) x) (under (b .args .file .now) (b .args .starts .now) (b .args .v) (b .args .h) (b .args .m .now) x) in
     (rw (is-wait _ _ v _ (c .before .top4 .given .1)) at (x .fit)) .proper .frames
 
--- src/lib.rt:293:20
 enum-known-top-5 : tie.Need-enum-known-top-5
 enum-known-top-5 c = search needs
 
--- src/lib.rt:293:26
 assign-requires : tie.Need-assign-requires
 assign-requires c κs =
     let b = c .before .before .before .before .before .before .before .before .before .before .before in
@@ -160,11 +140,9 @@ assign-requires c κs =
     let v = c .before .before .before .before .top-frame .ensures _ (x .variables) (x .top) (x .frames) (x .callers) (x .rest) (x .held) (few (b .args .file .now) (b .args .starts .now) (b .args .v) (b .args .h) (b .args .m .now) x) (under (b .args .file .now) (b .args .starts .now) (b .args .v) (b .args .h) (b .args .m .now) x) in
     ((bounded (b .args .file .now) (b .args .starts .now) (b .args .v) (b .args .h) (b .args .m .now) x (b .pre .2)), (framed (b .args .file .now) (b .args .starts .now) (b .args .v) (b .args .h) (b .args .m .now) x), store-ready (b .args .file .now) (b .args .starts .now) (b .args .v) (b .args .h) (b .args .m .now) x _ (is-store _ _ v _ (c .before .before .top5 .given .1)))
 
--- src/lib.rt:294:21
 enum-known-top-6 : tie.Need-enum-known-top-6
 enum-known-top-6 c = search needs
 
--- src/lib.rt:294:30
 choose-requires-2 : tie.Need-choose-requires-2
 choose-requires-2 c κs =
     let b = c .before .before .before .before .before .before .before .before .before .before .before in
@@ -172,11 +150,9 @@ choose-requires-2 c κs =
     let v = c .before .before .before .before .top-frame .ensures _ (x .variables) (x .top) (x .frames) (x .callers) (x .rest) (x .held) (few (b .args .file .now) (b .args .starts .now) (b .args .v) (b .args .h) (b .args .m .now) x) (under (b .args .file .now) (b .args .starts .now) (b .args .v) (b .args .h) (b .args .m .now) x) in
     ((bounded (b .args .file .now) (b .args .starts .now) (b .args .v) (b .args .h) (b .args .m .now) x (b .pre .2)), (framed (b .args .file .now) (b .args .starts .now) (b .args .v) (b .args .h) (b .args .m .now) x), branch-ready (b .args .file .now) (b .args .starts .now) (b .args .v) (b .args .h) (b .args .m .now) x ((rw (is-branch _ _ v _ _ (c .before .before .top6 .given .1)) at (x .fit)) .proper .frames .0))
 
--- src/lib.rt:295:44
 enum-told : tie.Need-enum-told
 enum-told c = search needs
 
--- src/lib.rt:295:23
 depart-requires : tie.Need-depart-requires
 depart-requires c κs =
     let b = c .before .before .before .before .before .before .before .before .before .before in
@@ -185,11 +161,9 @@ depart-requires c κs =
     let e = is-leave _ _ v (c .before .enum-told .given .1) in
     (((bounded (b .args .file .now) (b .args .starts .now) (b .args .v) (b .args .h) (b .args .m .now) x (b .pre .2)), x .starts), (leave-main-ready (b .args .file .now) (b .args .starts .now) (b .args .v) (b .args .h) (b .args .m .now) x e, leave-ready (b .args .file .now) (b .args .starts .now) (b .args .v) (b .args .h) (b .args .m .now) x e))
 
--- src/lib.rt:296:31
 enum-told-2 : tie.Need-enum-told-2
 enum-told-2 c = search needs
 
--- src/lib.rt:296:24
 affirm-requires : tie.Need-affirm-requires
 affirm-requires c κs =
     let b = c .before .before .before .before .before .before .before .before .before .before in
@@ -197,22 +171,18 @@ affirm-requires c κs =
     let v = c .before .before .before .top-frame .ensures _ (x .variables) (x .top) (x .frames) (x .callers) (x .rest) (x .held) (few (b .args .file .now) (b .args .starts .now) (b .args .v) (b .args .h) (b .args .m .now) x) (under (b .args .file .now) (b .args .starts .now) (b .args .v) (b .args .h) (b .args .m .now) x) in
     ((bounded (b .args .file .now) (b .args .starts .now) (b .args .v) (b .args .h) (b .args .m .now) x (b .pre .2)), (framed (b .args .file .now) (b .args .starts .now) (b .args .v) (b .args .h) (b .args .m .now) x), branch-ready (b .args .file .now) (b .args .starts .now) (b .args .v) (b .args .h) (b .args .m .now) x ((rw (is-assert _ _ v (c .before .enum-told2 .given .1)) at (x .fit)) .proper .frames .0))
 
--- src/lib.rt:297:47
 enum-told-3 : tie.Need-enum-told-3
 enum-told-3 c = search needs
 
--- src/lib.rt:297:25
 take-off-requires : tie.Need-take-off-requires
 take-off-requires c κs =
     let b = c .before .before .before .before .before .before .before .before .before .before in
     let x = over (b .args .file .now) (b .args .starts .now) (valueIs (b .args .v)) (b .args .h) (b .args .m .now) (b .pre .0) in
     ((bounded (b .args .file .now) (b .args .starts .now) (b .args .v) (b .args .h) (b .args .m .now) x (b .pre .2)), (framed (b .args .file .now) (b .args .starts .now) (b .args .v) (b .args .h) (b .args .m .now) x))
 
--- src/lib.rt:269:1
 same-length-3 : tie.Need-same-length-3
 same-length-3 c = search needs
 
--- src/lib.rt:269:1
 returns-3 : tie.Need-returns-3
 unfolding controlIs refOf valueIs
 returns-3 c f η fr K A R e t fit =
@@ -222,11 +192,9 @@ returns-3 c f η fr K A R e t fit =
     let w = c .before .before .before .before .before .before .before .before .top-frame .ensures f η fr K A R e (omega (arith, limited t fit .0, t .callers)) (counted-under t (b .args .h .frames - 1) (omega (arith, t .frames))) in
     gave-next _ _ _ _ _ R f η fr K A _ p e t fit _ _ _ _ (b .pre .1 ∙ ap (partOf (b .args .file .now)) (t .function)) (is-operator _ _ w _ _ _ (c .before .before .before .before .before .before .top .given .1)) (c .before .before .before .before .if1 .left) (λ vs d ns k l n q r. c .before .before .next-operand .ensures _ f η _ vs d ns K A R k l n q r)
 
--- src/lib.rt:269:1
 same-length-4 : tie.Need-same-length-4
 same-length-4 c = search needs
 
--- src/lib.rt:269:1
 returns-4 : tie.Need-returns-4
 unfolding controlIs refOf valueIs
 returns-4 c f η fr K A R e t fit =
@@ -236,11 +204,9 @@ returns-4 c f η fr K A R e t fit =
     let w = c .before .before .before .before .before .before .before .before .top-frame .ensures f η fr K A R e (omega (arith, limited t fit .0, t .callers)) (counted-under t (b .args .h .frames - 1) (omega (arith, t .frames))) in
     gave-next _ _ _ _ _ R f η fr K A _ p e t fit _ _ _ _ (b .pre .1 ∙ ap (partOf (b .args .file .now)) (t .function)) (is-call _ _ w _ _ _ (c .before .before .before .before .before .before .top2 .given .1)) (c .before .before .before .before .if2 .left) (λ vs d ns k l n q r. c .before .before .next-operand2 .ensures _ f η _ vs d ns K A R k l n q r)
 
--- src/lib.rt:269:1
 same-length-5 : tie.Need-same-length-5
 same-length-5 c = search needs
 
--- src/lib.rt:269:1
 returns-5 : tie.Need-returns-5
 unfolding controlIs refOf valueIs
 returns-5 c f η fr K A R e t fit =
@@ -250,19 +216,15 @@ returns-5 c f η fr K A R e t fit =
     let w = c .before .before .before .before .before .before .before .before .top-frame .ensures f η fr K A R e (omega (arith, limited t fit .0, t .callers)) (counted-under t (b .args .h .frames - 1) (omega (arith, t .frames))) in
     gave-and _ _ _ _ _ R f η fr K A _ p e t fit _ _ (b .pre .1 ∙ ap (partOf (b .args .file .now)) (t .function)) (is-and _ _ w _ (c .before .before .before .before .before .before .top3 .given .1)) (rw (← (c .before .before .before .before .reach .ensures)) (c .before .before .choose .ensures _ Rule.and-true Rule.and-false f η fr K A R e t))
 
--- src/lib.rt:269:1
 same-length-6 : tie.Need-same-length-6
 same-length-6 c = search needs
 
--- src/lib.rt:269:1
 returns-6 : tie.Need-returns-6
 returns-6 c = search needs
 
--- src/lib.rt:269:1
 same-length-7 : tie.Need-same-length-7
 same-length-7 c = search needs
 
--- src/lib.rt:269:1
 returns-7 : tie.Need-returns-7
 unfolding controlIs refOf valueIs
 returns-7 c f η fr K A R e t fit =
@@ -272,11 +234,9 @@ returns-7 c f η fr K A R e t fit =
     let w = c .before .before .before .before .before .before .before .top-frame .ensures f η fr K A R e (omega (arith, limited t fit .0, t .callers)) (counted-under t (b .args .h .frames - 1) (omega (arith, t .frames))) in
     gave-store _ _ _ _ _ R f η fr K A _ p e t fit _ (is-store _ _ w _ (c .before .before .before .before .before .top5 .given .1)) (λ i j. c .before .before .assign .ensures _ f η fr K A R e t i j)
 
--- src/lib.rt:269:1
 same-length-8 : tie.Need-same-length-8
 same-length-8 c = search needs
 
--- src/lib.rt:269:1
 returns-8 : tie.Need-returns-8
 unfolding controlIs refOf valueIs
 returns-8 c f η fr K A R e t fit =
@@ -286,11 +246,9 @@ returns-8 c f η fr K A R e t fit =
     let w = c .before .before .before .before .before .before .before .top-frame .ensures f η fr K A R e (omega (arith, limited t fit .0, t .callers)) (counted-under t (b .args .h .frames - 1) (omega (arith, t .frames))) in
     gave-branch _ _ _ _ _ R f η fr K A _ p e t fit _ _ (is-branch _ _ w _ _ (c .before .before .before .before .before .top6 .given .1)) (c .before .before .choose2 .ensures _ Rule.if-true Rule.if-false f η fr K A R e t)
 
--- src/lib.rt:269:1
 same-length-9 : tie.Need-same-length-9
 same-length-9 c = search needs
 
--- src/lib.rt:269:1
 returns-9 : tie.Need-returns-9
 unfolding controlIs refOf valueIs
 returns-9 c f η fr K A R e t fit =
@@ -300,11 +258,9 @@ returns-9 c f η fr K A R e t fit =
     let w = c .before .before .before .before .before .before .top-frame .ensures f η fr K A R e (omega (arith, limited t fit .0, t .callers)) (counted-under t (b .args .h .frames - 1) (omega (arith, t .frames))) in
     gave-leave _ _ _ _ _ R f η fr K A _ p e t fit (is-leave _ _ w (c .before .before .before .before .enum-told .given .1)) (c .before .before .depart .ensures f η _ A R e t)
 
--- src/lib.rt:269:1
 same-length-10 : tie.Need-same-length-10
 same-length-10 c = search needs
 
--- src/lib.rt:269:1
 returns-10 : tie.Need-returns-10
 unfolding controlIs refOf valueIs
 returns-10 c f η fr K A R e t fit =
@@ -314,11 +270,9 @@ returns-10 c f η fr K A R e t fit =
     let w = c .before .before .before .before .before .before .top-frame .ensures f η fr K A R e (omega (arith, limited t fit .0, t .callers)) (counted-under t (b .args .h .frames - 1) (omega (arith, t .frames))) in
     gave-assert _ _ _ _ _ R f η fr K A _ p e t fit (is-assert _ _ w (c .before .before .before .before .enum-told2 .given .1)) (c .before .before .affirm .ensures _ Rule.assert-true Rule.assert-false f η fr K A R e t)
 
--- src/lib.rt:269:1
 same-length-11 : tie.Need-same-length-11
 same-length-11 c = search needs
 
--- src/lib.rt:269:1
 returns-11 : tie.Need-returns-11
 unfolding controlIs refOf valueIs
 returns-11 c f η fr K A R e t fit =

@@ -11,44 +11,34 @@ use borrow.Author.Needs.{needs}
 use Rattle.run_step.proofs.next_operand.Statement.{statement}
 use Rattle.run_step.proofs.next_operand.Tie as tie
 
--- src/lib.rt:46:18
 sub-frames : tie.Need-sub-frames
 sub-frames c = search needs
 
--- src/lib.rt:47:34
 add-frame-word : tie.Need-add-frame-word
 add-frame-word c = search needs
 
--- src/lib.rt:47:56
 mul-frame-word : tie.Need-mul-frame-word
 mul-frame-word c = search needs
 
--- src/lib.rt:47:52
 add-frame-word-2 : tie.Need-add-frame-word-2
 add-frame-word-2 c = search needs
 
--- src/lib.rt:47:9
 frame-word-requires : tie.Need-frame-word-requires
 frame-word-requires c κs = search needs
 
--- src/lib.rt:48:34
 sub-supply : tie.Need-sub-supply
 sub-supply c = search needs
 
--- src/lib.rt:48:44
 reach-requires : tie.Need-reach-requires
 unfolding frameAt
 reach-requires c κs = rw (c .before .frame-word .ensures) (c .before .before .before .before .before .before .before .pre .1)
 
--- src/lib.rt:48:5
 supply-requires : tie.Need-supply-requires
 supply-requires c κs = search needs
 
--- src/lib.rt:41:1
 same-length : tie.Need-same-length
 same-length c = search needs
 
--- src/lib.rt:41:1
 returns : tie.Need-returns
 unfolding frameAt
 returns c s f η g vs e ns K A R held t few y z =

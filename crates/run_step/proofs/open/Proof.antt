@@ -15,78 +15,60 @@ use borrow.Author.Needs.{needs}
 use Rattle.run_step.proofs.open.Statement.{statement}
 use Rattle.run_step.proofs.open.Tie as tie
 
--- src/lib.rt:172:9
 kind-at-requires : tie.Need-kind-at-requires
 kind-at-requires c κs = search needs
 
--- src/lib.rt:175:21
 b-at-requires : tie.Need-b-at-requires
 b-at-requires c κs = search needs
 
--- src/lib.rt:175:21
 cast-x : tie.Need-cast-x
 cast-x c = search needs
 
--- src/lib.rt:177:17
 variable-requires : tie.Need-variable-requires
 variable-requires c κs = let q = c .before .before .before .before .before .before .before .pre in (q .0 .0, q .0 .1, rw (c .before .b-at .ensures) (q .2 .variable (sym (c .before .before .before .kind-at .ensures) ∙ c .before .before .match .keys1)))
 
--- src/lib.rt:180:54
 at-hand-requires : tie.Need-at-hand-requires
 at-hand-requires c κs = search needs
 
 a-at-requires : tie.Need-a-at-requires
 a-at-requires c κs = search needs
 
--- src/lib.rt:180:49
 wide-requires : tie.Need-wide-requires
 wide-requires c κs = search needs
 
--- src/lib.rt:180:74
 sub-gather : tie.Need-sub-gather
 sub-gather c = c .before .before .before .before .before .before .before .before .pre .2 .child (rw (arity-operator _ _ (sym (c .before .before .before .before .kind-at .ensures) ∙ c .before .before .before .match .keys2)) (omega arith))
 
--- src/lib.rt:180:14
 gather-requires : tie.Need-gather-requires
 gather-requires c κs = search needs
 
--- src/lib.rt:182:24
 sub-last : tie.Need-sub-last
 sub-last c = c .before .before .before .before .before .pre .2 .child (rw (arity-and _ _ (sym (c .before .kind-at .ensures) ∙ c .match .keys3)) (omega arith))
 
--- src/lib.rt:183:17
 prior-requires : tie.Need-prior-requires
 prior-requires c κs = search needs
 
--- src/lib.rt:184:39
 cast-lay : tie.Need-cast-lay
 cast-lay c = search needs
 
--- src/lib.rt:184:80
 cast-reach : tie.Need-cast-reach
 cast-reach c = search needs
 
--- src/lib.rt:184:55
 reach-requires : tie.Need-reach-requires
 reach-requires c κs = search needs
 
--- src/lib.rt:184:13
 lay-requires : tie.Need-lay-requires
 lay-requires c κs = search needs
 
--- src/lib.rt:186:14
 call-requires : tie.Need-call-requires
 call-requires c κs = search needs
 
--- src/lib.rt:187:14
 unreachable-requires : tie.Need-unreachable-requires
 unreachable-requires c κs = search needs
 
--- src/lib.rt:167:1
 same-length : tie.Need-same-length
 same-length c = search needs
 
--- src/lib.rt:167:1
 returns : tie.Need-returns
 returns c f η K A R e t pass part fit =
     let b = c .before .before .before .before .before .before .before .before .before in
@@ -96,11 +78,9 @@ returns c f η K A R e t pass part fit =
     variable-done _ _ _ _ _ R f η K A _ _ k (c .before .variable .ensures f η K A R e (t .callers) y (variables-few _ pass _ f η K A fit) ∙ rw (c .before .before .before .b-at .ensures))
     (on-is _ _ _ _ _ R _ f η η K A (c .at-hand .ensures) refl e t (b .pre .0 .1) (b .pre .0 .2))
 
--- src/lib.rt:167:1
 same-length-2 : tie.Need-same-length-2
 same-length-2 c = search needs
 
--- src/lib.rt:167:1
 returns-2 : tie.Need-returns-2
 returns-2 c f η K A R e t pass part fit =
     let b = c .before .before .before .before .before .before .before .before .before .before .before in
@@ -110,28 +90,23 @@ returns-2 c f η K A R e t pass part fit =
     gather-done _ _ _ _ _ R f η K A _ (op (c .before .before .before .wide .result)) 2 (z .first) (z .rest) (look-operator _ _ k ∙ rw w)
     (arity-operator _ _ k) part (z .is) (c .before .before .gather .ensures _ f η (op (c .before .before .before .wide .result)) (z .first) (z .rest) K A R e t (λ x y. waiting-words (op (c .before .before .before .wide .result)) x y) (z .is))
 
--- src/lib.rt:167:1
 same-length-3 : tie.Need-same-length-3
 same-length-3 c = search needs
 
--- src/lib.rt:167:1
 returns-3 : tie.Need-returns-3
 unfolding frameWords block
 returns-3 c f η K A R e t pass part fit =
     let k = sym (c .before .before .before .before .before .before .before .kind-at .ensures) ∙ c .before .before .before .before .before .before .match .keys3 in
     and-done _ _ _ _ _ R f η K A _ k part _ (c .before .before .before .before .before .prior .ensures) (rw (← (c .before .before .before .reach .ensures)) (c .before .before .lay .ensures _ f η (and _) K A R e t refl))
 
--- src/lib.rt:167:1
 same-length-4 : tie.Need-same-length-4
 same-length-4 c = search needs
 
--- src/lib.rt:167:1
 returns-4 : tie.Need-returns-4
 returns-4 c f η K A R e t pass part fit =
     let k = sym (c .before .before .before .before .before .kind-at .ensures) ∙ c .before .before .before .before .match .keys4 in
     c .before .before .call .ensures f η K A R e t part (rw part (call-params _ pass f η K A _ fit (rw part at k)))
 
--- src/lib.rt:167:1
 returns-5 : tie.Need-returns-5
 returns-5 c = search needs
 

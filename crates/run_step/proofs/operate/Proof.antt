@@ -4,95 +4,74 @@ use native.Mathlib.Omega.{arith}
 use Prim.Native.Nat.{_-_}
 use Rattle.spec_machine.specs.Values.{result}
 use Rattle.state_words.specs.Meaning.{slotAt, valueIs, controlIs}
-use Rattle.run_rules.specs.Comes.{Comes}
+use Rattle.run_rules.specs.StepsTo.{StepsTo}
 use Rattle.run_rules.proofs.Steps.{counted, counted-under}
 use Rattle.run_step.proofs.Sorts.{int-only, int-words}
 use borrow.Author.Needs.{needs}
 use Rattle.run_step.proofs.operate.Statement.{statement}
 use Rattle.run_step.proofs.operate.Tie as tie
 
--- src/lib.rt:66:20
 enum-known-v : tie.Need-enum-known-v
 enum-known-v c = search needs
 
--- src/lib.rt:67:9
 unreachable-requires : tie.Need-unreachable-requires
 unreachable-requires c κs = int-only (c .before .before .before .args .v) (c .before .before .before .pre .1 .0) (c .match .keys2)
 
--- src/lib.rt:67:9
 returns : tie.Need-returns
 returns c = search needs
 
--- src/lib.rt:69:18
 sub-frames : tie.Need-sub-frames
 sub-frames c = search needs
 
--- src/lib.rt:70:46
 add-slot-value : tie.Need-add-slot-value
 add-slot-value c = search needs
 
--- src/lib.rt:70:25
 slot-value-requires : tie.Need-slot-value-requires
 slot-value-requires c κs = search needs
 
--- src/lib.rt:70:20
 enum-known-a : tie.Need-enum-known-a
 enum-known-a c = search needs
 
--- src/lib.rt:71:9
 unreachable-requires-2 : tie.Need-unreachable-requires-2
 unfolding slotAt
 unreachable-requires-2 c κs = int-only (c .before .slot-value .result) (int-words _ _ _ (c .before .slot-value .ensures) (c .before .before .before .before .before .before .before .before .before .before .pre .1 .1)) (c .match2 .keys2)
 
--- src/lib.rt:71:9
 same-length : tie.Need-same-length
 same-length c = search needs
 
--- src/lib.rt:71:9
 returns-2 : tie.Need-returns-2
 returns-2 c = search needs
 
--- src/lib.rt:73:24
 shared-slice-read-apply : tie.Need-shared-slice-read-apply
 shared-slice-read-apply c = search needs
 
--- src/lib.rt:73:33
 cast-apply : tie.Need-cast-apply
 cast-apply c = search needs
 
--- src/lib.rt:73:11
 apply-requires : tie.Need-apply-requires
 apply-requires c κs = search needs
 
--- src/lib.rt:74:22
 enum-known-word : tie.Need-enum-known-word
 enum-known-word c = search needs
 
--- src/lib.rt:74:31
 take-off-requires : tie.Need-take-off-requires
 take-off-requires c κs = search needs
 
--- src/lib.rt:75:24
 enum-known-truth : tie.Need-enum-known-truth
 enum-known-truth c = search needs
 
--- src/lib.rt:75:34
 take-off-requires-2 : tie.Need-take-off-requires-2
 take-off-requires-2 c κs = search needs
 
--- src/lib.rt:76:33
 enum-told : tie.Need-enum-told
 enum-told c = search needs
 
--- src/lib.rt:76:27
 raise-requires : tie.Need-raise-requires
 raise-requires c κs = search needs
 
--- src/lib.rt:61:1
 same-length-2 : tie.Need-same-length-2
 same-length-2 c = search needs
 
--- src/lib.rt:61:1
 returns-3 : tie.Need-returns-3
 unfolding slotAt valueIs controlIs
 returns-3 c f η a b K A R e t i =
@@ -102,11 +81,9 @@ returns-3 c f η a b K A R e t i =
     (stored _ _ f η _ a K A R _ _ e (omega (arith, t .callers, z .pre .0 .0 .1)) u (c .before .before .before .before .before .before .before .before .before .before .before .before .slot-value .ensures) (c .before .before .before .before .before .before .before .before .before .before .a .given .1))
     (hand _ _ b (c .before .before .before .before .before .before .before .before .before .before .before .before .before .before .before .before .before .v .given .1) i) _ (sym (c .before .before .before .before .before .before .before .apply .ensures) ∙ c .before .before .before .before .before .word .given .1) (c .before .before .take-off .ensures _ f η _ K A R e t)
 
--- src/lib.rt:61:1
 same-length-3 : tie.Need-same-length-3
 same-length-3 c = search needs
 
--- src/lib.rt:61:1
 returns-4 : tie.Need-returns-4
 unfolding slotAt valueIs controlIs
 returns-4 c f η a b K A R e t i =
@@ -116,13 +93,11 @@ returns-4 c f η a b K A R e t i =
     (stored _ _ f η _ a K A R _ _ e (omega (arith, t .callers, z .pre .0 .0 .1)) u (c .before .before .before .before .before .before .before .before .before .before .before .before .slot-value .ensures) (c .before .before .before .before .before .before .before .before .before .before .a .given .1))
     (hand _ _ b (c .before .before .before .before .before .before .before .before .before .before .before .before .before .before .before .before .before .v .given .1) i) _ (sym (c .before .before .before .before .before .before .before .apply .ensures) ∙ c .before .before .before .before .before .truth .given .1) (c .before .before .take-off2 .ensures _ f η _ K A R e t)
 
--- src/lib.rt:61:1
 same-length-4 : tie.Need-same-length-4
 same-length-4 c = search needs
 
--- src/lib.rt:61:1
 returns-5 : tie.Need-returns-5
-unfolding slotAt Comes
+unfolding slotAt StepsTo
 returns-5 c f η a b K A R e t i =
     let z = c .before .before .before .before .before .before .before .before .before .before .before .before .before .before .before .before .before .before .before .before in
     let u = counted-under t (z .args .h .frames - 1) (omega (arith, z .pre .0 .1)) in

@@ -7,51 +7,39 @@ use borrow.Author.Needs.{needs}
 use Rattle.state_stack.proofs.gain.Statement.{statement}
 use Rattle.state_stack.proofs.gain.Tie as tie
 
--- src/lib.rt:103:5
 put-slot-requires : tie.Need-put-slot-requires
 put-slot-requires c κs = search needs
 
--- src/lib.rt:104:21
 mul-at : tie.Need-mul-at
 mul-at c = search needs
 
--- src/lib.rt:104:14
 add-at : tie.Need-add-at
 add-at c = search needs
 
--- src/lib.rt:105:17
 add-m : tie.Need-add-m
 add-m c = search needs
 
--- src/lib.rt:105:7
 add-m-2 : tie.Need-add-m-2
 add-m-2 c = search needs
 
--- src/lib.rt:105:5
 mul-m : tie.Need-mul-m
 mul-m c = search needs
 
--- src/lib.rt:105:5
 slice-write-m : tie.Need-slice-write-m
 slice-write-m c = search needs
 
--- src/lib.rt:106:7
 add-m-3 : tie.Need-add-m-3
 add-m-3 c = search needs
 
--- src/lib.rt:106:5
 mul-m-2 : tie.Need-mul-m-2
 mul-m-2 c = search needs
 
--- src/lib.rt:106:5
 slice-write-m-2 : tie.Need-slice-write-m-2
 slice-write-m-2 c = simp length-set (omega (arith, c .before .before .put-slot .kept .0))
 
--- src/lib.rt:99:1
 same-length : tie.Need-same-length
 same-length c = search needs
 
--- src/lib.rt:99:1
 returns : tie.Need-returns
 unfolding slotAt
 returns c f η h vs w ns K A R e few n room y z =

@@ -5,15 +5,12 @@ use borrow.Author.Needs.{needs}
 use Rattle.state_stack.proofs.pop.Statement.{statement}
 use Rattle.state_stack.proofs.pop.Tie as tie
 
--- src/lib.rt:26:5
 drop-frames-requires : tie.Need-drop-frames-requires
 drop-frames-requires c κs = search needs
 
--- src/lib.rt:22:1
 same-length : tie.Need-same-length
 same-length c = search needs
 
--- src/lib.rt:22:1
 returns : tie.Need-returns
 unfolding frameAt
 returns c f η fr K A R e few n =

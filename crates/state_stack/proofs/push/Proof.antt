@@ -6,15 +6,12 @@ use borrow.Author.Needs.{needs}
 use Rattle.state_stack.proofs.push.Statement.{statement}
 use Rattle.state_stack.proofs.push.Tie as tie
 
--- src/lib.rt:18:5
 put-frame-requires : tie.Need-put-frame-requires
 put-frame-requires c κs = search needs
 
--- src/lib.rt:14:1
 same-length : tie.Need-same-length
 same-length c = search needs
 
--- src/lib.rt:14:1
 returns : tie.Need-returns
 unfolding frameAt
 returns c f η fr K A R e few n w =

@@ -5,15 +5,12 @@ use borrow.Author.Needs.{needs}
 use Rattle.state_stack.proofs.set_variable.Statement.{statement}
 use Rattle.state_stack.proofs.set_variable.Tie as tie
 
--- src/lib.rt:42:5
 put-variable-requires : tie.Need-put-variable-requires
 put-variable-requires c κs = search needs
 
--- src/lib.rt:38:1
 same-length : tie.Need-same-length
 same-length c = search needs
 
--- src/lib.rt:38:1
 returns : tie.Need-returns
 unfolding variableAt
 returns c f η K A R e n declared few =

@@ -5,11 +5,9 @@ use borrow.Author.Needs.{needs}
 use Rattle.state_stack.proofs.variable.Statement.{statement}
 use Rattle.state_stack.proofs.variable.Tie as tie
 
--- src/lib.rt:34:5
 variable-requires : tie.Need-variable-requires
 variable-requires c κs = search needs
 
--- src/lib.rt:30:1
 returns : tie.Need-returns
 unfolding variableAt
 returns c f η K A R e n declared few =

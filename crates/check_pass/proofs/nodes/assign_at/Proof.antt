@@ -1,5 +1,5 @@
 use native.Mathlib.Omega.{arith}
-use Rattle.check_types.proofs.Tables.{laid-at}
+use Rattle.check_types.proofs.TypeTables.{laid-at}
 use Rattle.spec_language.specs.Scopes.{usesVariable}
 use Rattle.spec_language.specs.Known.{namesVariable}
 use mathlib.Core.Path.{refl, _∙_}

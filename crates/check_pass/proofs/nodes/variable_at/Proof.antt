@@ -2,7 +2,7 @@ use native.Mathlib.Omega.{arith}
 use mathlib.Core.Path.{refl}
 use Rattle.spec_language.specs.Scopes.{usesVariable}
 use Rattle.spec_language.specs.Known.{namesVariable}
-use Rattle.check_types.proofs.Tables.{laid-at}
+use Rattle.check_types.proofs.TypeTables.{laid-at}
 use Rattle.check_effects.proofs.Covering.{inserted}
 use Rattle.check_pass.proofs.Judging.{variable-judged}
 use borrow.Author.Needs.{needs}

@@ -7,7 +7,7 @@ use Rattle.spec_machine.specs.File.{programOf}
 use Rattle.spec_image.specs.Decode.{nodesOf}
 use Rattle.fit_frames.specs.Operands.{wantOf, nodesSuit}
 use Rattle.fit_frames.specs.Slots.{slotsIn}
-use Rattle.fit_frames.proofs.Slots.{nodes-more, nodes-less, nodes-end}
+use Rattle.fit_frames.proofs.FrameSlots.{nodes-more, nodes-less, nodes-end}
 use borrow.Author.Needs.{needs}
 use Rattle.fit_frames.proofs.operands.nodes_suit.Statement.{statement}
 use Rattle.fit_frames.proofs.operands.nodes_suit.Tie as tie

@@ -4,7 +4,7 @@ use Prim.Native.Nat.{_*_, _-_, _≤_}
 use Rattle.spec_image.specs.Decode.{valuesOf}
 use Rattle.fit_frames.specs.Operands.{wantOf, valuesSuit}
 use Rattle.fit_frames.specs.Slots.{slotsIn}
-use Rattle.fit_frames.proofs.Slots.{values-more, values-less, values-end, values-all}
+use Rattle.fit_frames.proofs.FrameSlots.{values-more, values-less, values-end, values-all}
 use borrow.Author.Needs.{needs}
 use Rattle.fit_frames.proofs.operands.values_suit.Statement.{statement}
 use Rattle.fit_frames.proofs.operands.values_suit.Tie as tie

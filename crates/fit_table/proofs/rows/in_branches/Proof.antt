@@ -1,5 +1,5 @@
 use mathlib.Core.Path.{refl, _∙_}
-use Rattle.fit_table.proofs.Parts.{branches-summary}
+use Rattle.fit_table.proofs.SummaryParts.{branches-summary}
 use borrow.Author.Needs.{needs}
 use Rattle.fit_table.proofs.rows.in_branches.Statement.{statement}
 use Rattle.fit_table.proofs.rows.in_branches.Tie as tie

@@ -1,5 +1,5 @@
 use mathlib.Core.Path.{refl}
-use Rattle.fit_table.proofs.Parts.{loop-summary}
+use Rattle.fit_table.proofs.SummaryParts.{loop-summary}
 use borrow.Author.Needs.{needs}
 use Rattle.fit_table.proofs.rows.in_loop.Statement.{statement}
 use Rattle.fit_table.proofs.rows.in_loop.Tie as tie

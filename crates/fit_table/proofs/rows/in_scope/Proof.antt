@@ -1,5 +1,5 @@
 use mathlib.Core.Path.{refl, sym, _∙_}
-use Rattle.fit_table.proofs.Parts.{scope-summary}
+use Rattle.fit_table.proofs.SummaryParts.{scope-summary}
 use borrow.Author.Needs.{needs}
 use Rattle.fit_table.proofs.rows.in_scope.Statement.{statement}
 use Rattle.fit_table.proofs.rows.in_scope.Tie as tie

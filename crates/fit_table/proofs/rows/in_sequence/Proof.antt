@@ -1,5 +1,5 @@
 use mathlib.Core.Path.{refl, sym, _∙_}
-use Rattle.fit_table.proofs.Parts.{sequence-summary}
+use Rattle.fit_table.proofs.SummaryParts.{sequence-summary}
 use borrow.Author.Needs.{needs}
 use Rattle.fit_table.proofs.rows.in_sequence.Statement.{statement}
 use Rattle.fit_table.proofs.rows.in_sequence.Tie as tie

@@ -2,7 +2,7 @@ use mathlib.Core.Path.{ap, _∙_}
 use borrow.Author.Tests.{eqb-true, eq-eqb}
 use Rattle.varset.proofs.Laws.{none-is}
 use Rattle.varset.specs.Sets.{has}
-use Rattle.fit_table.proofs.Words.{zero-word}
+use Rattle.fit_table.proofs.EmptyWord.{zero-word}
 use Rattle.fit_table.proofs.rows.is_none.Statement.{statement}
 use Rattle.fit_table.proofs.rows.is_none.Tie as tie
 

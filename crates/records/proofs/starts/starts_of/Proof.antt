@@ -4,7 +4,7 @@ use Prim.Native.Nat.{_*_, _-_, _≤_}
 use native.Mathlib.Omega.{arith}
 use borrow.Author.Needs.{needs}
 use Rattle.records.specs.Parts.{startOf}
-use Rattle.records.proofs.Parts.{start-first, start-on}
+use Rattle.records.proofs.PartWalks.{start-first, start-on}
 use Rattle.records.proofs.StartTables.{StartsTo, starts-more}
 use Rattle.records.proofs.starts.starts_of.Statement.{statement}
 use Rattle.records.proofs.starts.starts_of.Tie as tie

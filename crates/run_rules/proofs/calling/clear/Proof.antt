@@ -4,15 +4,12 @@ use borrow.Author.Needs.{needs}
 use Rattle.run_rules.proofs.calling.clear.Statement.{statement}
 use Rattle.run_rules.proofs.calling.clear.Tie as tie
 
--- src/lib.rt:258:5
 zero-at-requires : tie.Need-zero-at-requires
 zero-at-requires c κs = search needs
 
--- src/lib.rt:254:1
 same-length : tie.Need-same-length
 same-length c = search needs
 
--- src/lib.rt:254:1
 returns : tie.Need-returns
 returns c f η K A R e few fewer z w = c .before .before .zero-at .ensures ∙ rw (e, c .before .before .before .before .before .pre .0 ∙ sym w) (clear-core f η K A few fewer R z w)
 

@@ -12,63 +12,48 @@ use borrow.Author.Needs.{needs}
 use Rattle.run_rules.proofs.calling.enter.Statement.{statement}
 use Rattle.run_rules.proofs.calling.enter.Tie as tie
 
--- src/lib.rt:201:9
 returns : tie.Need-returns
 returns c f η k vs K A R e t y p v = entered-full _ _ _ _ R f _ η _ _ K A t (search needs)
 
--- src/lib.rt:204:17
 mul-start : tie.Need-mul-start
 mul-start c = search needs
 
--- src/lib.rt:204:17
 element-copy-out-start : tie.Need-element-copy-out-start
 element-copy-out-start c = search needs
 
--- src/lib.rt:205:9
 count-of-requires : tie.Need-count-of-requires
 count-of-requires c κs = search needs
 
--- src/lib.rt:206:18
 sub-frames : tie.Need-sub-frames
 sub-frames c = search needs
 
--- src/lib.rt:207:25
 add-enter : tie.Need-add-enter
 add-enter c = search needs
 
--- src/lib.rt:207:54
 cast-enter : tie.Need-cast-enter
 cast-enter c = search needs
 
--- src/lib.rt:207:77
 vars-of-requires : tie.Need-vars-of-requires
 vars-of-requires c κs = search needs
 
--- src/lib.rt:207:72
 wide-requires : tie.Need-wide-requires
 wide-requires c κs = search needs
 
--- src/lib.rt:207:5
 enter-requires : tie.Need-enter-requires
 enter-requires c κs = search needs
 
--- src/lib.rt:209:23
 body-of-requires : tie.Need-body-of-requires
 body-of-requires c κs = let b = c .before .before .before .before .before .before .before .before .before .before .before .before .before .before in let q = b .pre in part-laid _ (b .args .starts .now) _ _ _ (q .2) (q .3) refl (c .before .before .before .before .before .before .before .before .count-of .ensures .0)
 
--- src/lib.rt:214:22
 add-t16 : tie.Need-add-t16
 add-t16 c = search needs
 
--- src/lib.rt:216:20
 add-t13 : tie.Need-add-t13
 add-t13 c = record { fits = omega (arith, c .before .before .before .before .before .before .before .before .before .before .before .before .before .before .before .before .before .pre .0 .2) }
 
--- src/lib.rt:196:1
 same-length : tie.Need-same-length
 same-length c = search needs
 
--- src/lib.rt:196:1
 returns-2 : tie.Need-returns-2
 unfolding controlIs
 returns-2 c f η k vs K A R e t y p v =

@@ -11,55 +11,42 @@ use borrow.Author.Needs.{needs}
 use Rattle.run_rules.proofs.calling.enter_none.Statement.{statement}
 use Rattle.run_rules.proofs.calling.enter_none.Tie as tie
 
--- src/lib.rt:176:9
 returns : tie.Need-returns
 returns c f η K A R e t p = entered-full _ _ _ _ R f _ η _ _ K A t (search needs)
 
--- src/lib.rt:179:17
 mul-start : tie.Need-mul-start
 mul-start c = search needs
 
--- src/lib.rt:179:17
 element-copy-out-start : tie.Need-element-copy-out-start
 element-copy-out-start c = search needs
 
--- src/lib.rt:180:9
 count-of-requires : tie.Need-count-of-requires
 count-of-requires c κs = search needs
 
--- src/lib.rt:181:41
 cast-enter-none : tie.Need-cast-enter-none
 cast-enter-none c = search needs
 
--- src/lib.rt:181:66
 vars-of-requires : tie.Need-vars-of-requires
 vars-of-requires c κs = search needs
 
--- src/lib.rt:181:61
 wide-requires : tie.Need-wide-requires
 wide-requires c κs = search needs
 
--- src/lib.rt:181:5
 enter-none-requires : tie.Need-enter-none-requires
 enter-none-requires c κs = search needs
 
--- src/lib.rt:183:23
 body-of-requires : tie.Need-body-of-requires
 body-of-requires c κs = let b = c .before .before .before .before .before .before .before .before .before .before .before .before .before in let q = b .pre in part-laid _ (b .args .starts .now) _ _ _ (q .1) (q .2) refl (c .before .before .before .before .before .before .before .count-of .ensures .0)
 
--- src/lib.rt:188:22
 add-t10 : tie.Need-add-t10
 add-t10 c = search needs
 
--- src/lib.rt:190:20
 add-t13 : tie.Need-add-t13
 add-t13 c = search needs
 
--- src/lib.rt:171:1
 same-length : tie.Need-same-length
 same-length c = search needs
 
--- src/lib.rt:171:1
 returns-2 : tie.Need-returns-2
 unfolding controlIs
 returns-2 c f η K A R e t p =

@@ -14,51 +14,39 @@ use Rattle.run_rules.proofs.calling.leave.Tie as tie
 at-hand-requires : tie.Need-at-hand-requires
 at-hand-requires c κs = search needs
 
--- src/lib.rt:227:19
 sub-callers : tie.Need-sub-callers
 sub-callers c = search needs
 
--- src/lib.rt:228:20
 caller-function-requires : tie.Need-caller-function-requires
 caller-function-requires c κs = search needs
 
--- src/lib.rt:228:20
 cast-function : tie.Need-cast-function
 cast-function c = search needs
 
--- src/lib.rt:229:18
 caller-frames-requires : tie.Need-caller-frames-requires
 caller-frames-requires c κs = search needs
 
--- src/lib.rt:229:18
 cast-frames : tie.Need-cast-frames
 cast-frames c = search needs
 
--- src/lib.rt:230:5
 leave-requires : tie.Need-leave-requires
 leave-requires c κs = search needs
 
--- src/lib.rt:235:20
 mul-t18 : tie.Need-mul-t18
 mul-t18 c = search needs
 
--- src/lib.rt:235:20
 element-copy-out-t21 : tie.Need-element-copy-out-t21
 element-copy-out-t21 c = let b = c .before .before .before .before .before .before .before .before .before .before .before .before in let q = b .pre .1 in let r = c .before .before .before .before .before .before .caller-function .ensures _ _ _ _ _ _ _ _ (q .held) (left-callers (q .tells) _ (omega (arith, b .pre .0 .1))) in omega (arith, r, q .known, b .pre .0 .2 .0 .few)
 
--- src/lib.rt:236:20
 count-of-requires : tie.Need-count-of-requires
 count-of-requires c κs = let b = c .before .before .before .before .before .before .before .before .before .before .before .before .before in let q = b .pre .1 in let r = c .before .before .before .before .before .before .before .caller-function .ensures _ _ _ _ _ _ _ _ (q .held) (left-callers (q .tells) _ (omega (arith, b .pre .0 .1))) in omega (arith, r, q .known, b .pre .0 .2 .0 .heads)
 
--- src/lib.rt:239:20
 sub-t23 : tie.Need-sub-t23
 sub-t23 c = let b = c .before .before .before .before .before .before .before .before .before .before .before .before .before .before .before in let q = b .pre .1 in let r = c .before .before .before .before .before .before .before .caller-frames .ensures _ _ _ _ _ _ _ _ (q .held) (left-callers (q .tells) _ (omega (arith, b .pre .0 .1))) in omega (arith, r, left-under (q .tells))
 
--- src/lib.rt:222:1
 same-length : tie.Need-same-length
 same-length c = search needs
 
--- src/lib.rt:222:1
 returns : tie.Need-returns
 unfolding controlIs
 returns c f η J g θ L A R e t =

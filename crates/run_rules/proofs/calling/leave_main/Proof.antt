@@ -1,20 +1,17 @@
 use mathlib.Core.Path.{refl}
-use Rattle.run_rules.specs.Comes.{Comes}
+use Rattle.run_rules.specs.StepsTo.{StepsTo}
 use borrow.Author.Needs.{needs}
 use Rattle.run_rules.proofs.calling.leave_main.Statement.{statement}
 use Rattle.run_rules.proofs.calling.leave_main.Tie as tie
 
--- src/lib.rt:249:5
 leave-main-requires : tie.Need-leave-main-requires
 leave-main-requires c κs = search needs
 
--- src/lib.rt:245:1
 same-length : tie.Need-same-length
 same-length c = search needs
 
--- src/lib.rt:245:1
 returns : tie.Need-returns
-unfolding Comes
+unfolding StepsTo
 returns c s f η J R e t = (refl, λ z w. c .before .before .leave-main .ensures z f η J R e w (t .frames))
 
 pub leave-main-spec : {M : Type 1} → statement M

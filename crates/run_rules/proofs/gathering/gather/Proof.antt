@@ -8,35 +8,27 @@ use borrow.Author.Needs.{needs}
 use Rattle.run_rules.proofs.gathering.gather.Statement.{statement}
 use Rattle.run_rules.proofs.gathering.gather.Tie as tie
 
--- src/lib.rt:138:13
 add-n : tie.Need-add-n
 add-n c = search needs
 
--- src/lib.rt:140:9
 returns : tie.Need-returns
 returns c s f η g e ns K A R held t w kids = full s _ _ _ R f η _ K A t (search needs)
 
--- src/lib.rt:142:9
 push-gather-requires : tie.Need-push-gather-requires
 push-gather-requires c κs = search needs
 
--- src/lib.rt:144:21
 cast-reach : tie.Need-cast-reach
 cast-reach c = search needs
 
--- src/lib.rt:144:9
 reach-requires : tie.Need-reach-requires
 reach-requires c κs = search needs
 
--- src/lib.rt:150:21
 add-t15 : tie.Need-add-t15
 add-t15 c = search needs
 
--- src/lib.rt:134:1
 same-length : tie.Need-same-length
 same-length c = search needs
 
--- src/lib.rt:134:1
 returns-2 : tie.Need-returns-2
 returns-2 c s f η g e ns K A R held t w kids =
     let p = c .before .before .before .before .push-gather .ensures .1 f η g e ns K A R held (omega (arith, t .callers, c .before .before .before .before .before .before .before .before .before .before .pre .0 .1)) (counted t) w kids in

@@ -5,34 +5,27 @@ use borrow.Author.Needs.{needs}
 use Rattle.run_rules.proofs.gathering.reach.Statement.{statement}
 use Rattle.run_rules.proofs.gathering.reach.Tie as tie
 
--- src/lib.rt:124:9
 kind-at-requires : tie.Need-kind-at-requires
 kind-at-requires c κs = search needs
 
--- src/lib.rt:126:38
 b-at-requires : tie.Need-b-at-requires
 b-at-requires c κs = search needs
 
--- src/lib.rt:127:40
 b-at-requires-2 : tie.Need-b-at-requires-2
 b-at-requires-2 c κs = search needs
 
--- src/lib.rt:119:1
 returns : tie.Need-returns
 unfolding controlIs valueIs
 returns c = rw (look-int _ _ (sym (c .before .before .kind-at .ensures) ∙ c .before .match .keys1), c .b-at .ensures)
 
--- src/lib.rt:119:1
 returns-2 : tie.Need-returns-2
 unfolding controlIs valueIs
 returns-2 c = rw (look-bool _ _ (sym (c .before .before .kind-at .ensures) ∙ c .before .match .keys2), c .b-at2 .ensures)
 
--- src/lib.rt:119:1
 returns-3 : tie.Need-returns-3
 unfolding controlIs valueIs
 returns-3 c = rw (look-nothing _ _ (sym (c .before .kind-at .ensures) ∙ c .match .keys3))
 
--- src/lib.rt:119:1
 returns-4 : tie.Need-returns-4
 unfolding controlIs valueIs
 returns-4 c = let k = c .before .kind-at .ensures in let r = c .match .rest in reach-other _ _ (λ e. r .0 .0 .1 (k ∙ e)) (λ e. r .0 .1 (k ∙ e)) (λ e. r .1 (k ∙ e))

@@ -9,66 +9,51 @@ use borrow.Author.Needs.{needs}
 use Rattle.run_step.proofs.statements.execute_loop.Statement.{statement}
 use Rattle.run_step.proofs.statements.execute_loop.Tie as tie
 
--- src/lib.rt:246:16
 sub-last : tie.Need-sub-last
 sub-last c = search needs
 
--- src/lib.rt:248:46
 mul-lay : tie.Need-mul-lay
 mul-lay c = search needs
 
--- src/lib.rt:248:42
 add-lay : tie.Need-add-lay
 add-lay c = search needs
 
--- src/lib.rt:248:70
 ref-word-at-requires : tie.Need-ref-word-at-requires
 ref-word-at-requires c κs = search needs
 
--- src/lib.rt:248:9
 lay-requires : tie.Need-lay-requires
 lay-requires c κs = search needs
 
--- src/lib.rt:248:9
 same-length : tie.Need-same-length
 same-length c = search needs
 
--- src/lib.rt:248:9
 returns : tie.Need-returns
 unfolding controlIs refWord frameWords block
 returns c s f η K A R e t part k =
     let b = c .before .before .before .before .before .before .before .before in
     rw (c .before .before .before .before .before .if1 .taken, see-seq _ _ (b .pre .3) k, ← (c .before .before .before .ref-word-at .ensures .1)) (c .before .before .lay .ensures s f η (wait (node _)) K A R e t refl)
 
--- src/lib.rt:250:9
 prior-requires : tie.Need-prior-requires
 prior-requires c κs = search needs
 
--- src/lib.rt:251:35
 mul-lay-2 : tie.Need-mul-lay-2
 mul-lay-2 c = search needs
 
--- src/lib.rt:251:31
 add-lay-2 : tie.Need-add-lay-2
 add-lay-2 c = search needs
 
--- src/lib.rt:251:70
 cast-reach : tie.Need-cast-reach
 cast-reach c = search needs
 
--- src/lib.rt:251:45
 reach-requires : tie.Need-reach-requires
 reach-requires c κs = search needs
 
--- src/lib.rt:251:5
 lay-requires-2 : tie.Need-lay-requires-2
 lay-requires-2 c κs = search needs
 
--- src/lib.rt:242:1
 same-length-2 : tie.Need-same-length-2
 same-length-2 c = search needs
 
--- src/lib.rt:242:1
 returns-2 : tie.Need-returns-2
 unfolding programOf refWord frameWords block
 returns-2 c s f η K A R e t part k =

@@ -8,7 +8,7 @@ use Rattle.spec_machine.specs.Machine.{Frame, wait, branch, exec}
 use Rattle.spec_machine.specs.File.{refAt, programOf}
 use Rattle.spec_image.specs.Layout.{refWord, frameWords, block}
 use Rattle.state_words.specs.Meaning.{valueIs, controlIs}
-use Rattle.spec_image.proofs.Parts.{ref-back}
+use Rattle.spec_image.proofs.ValueWords.{ref-back}
 use Rattle.run_rules.proofs.Entries.{on-is}
 use Rattle.run_step.proofs.Facts.{variables-few, decl-variable}
 use Rattle.run_step.proofs.Forms.{form-seq, form-assign, form-decl, form-if, form-while, single-done}
@@ -16,87 +16,66 @@ use borrow.Author.Needs.{needs}
 use Rattle.run_step.proofs.statements.execute_node.Statement.{statement}
 use Rattle.run_step.proofs.statements.execute_node.Tie as tie
 
--- src/lib.rt:218:16
 sub-last : tie.Need-sub-last
 sub-last c = search needs
 
--- src/lib.rt:219:9
 kind-at-requires : tie.Need-kind-at-requires
 kind-at-requires c κs = search needs
 
--- src/lib.rt:222:17
 prior-requires : tie.Need-prior-requires
 prior-requires c κs = search needs
 
--- src/lib.rt:223:17
 ref-word-at-requires : tie.Need-ref-word-at-requires
 ref-word-at-requires c κs = search needs
 
--- src/lib.rt:224:62
 ref-word-at-requires-2 : tie.Need-ref-word-at-requires-2
 ref-word-at-requires-2 c κs = search needs
 
--- src/lib.rt:224:13
 lay-requires : tie.Need-lay-requires
 lay-requires c κs = search needs
 
--- src/lib.rt:226:40
 b-at-requires : tie.Need-b-at-requires
 b-at-requires c κs = search needs
 
--- src/lib.rt:226:84
 cast-reach : tie.Need-cast-reach
 cast-reach c = search needs
 
--- src/lib.rt:226:59
 reach-requires : tie.Need-reach-requires
 reach-requires c κs = search needs
 
--- src/lib.rt:226:14
 lay-requires-2 : tie.Need-lay-requires-2
 lay-requires-2 c κs = search needs
 
--- src/lib.rt:227:37
 b-at-requires-2 : tie.Need-b-at-requires-2
 b-at-requires-2 c κs = search needs
 
--- src/lib.rt:227:83
 ref-word-at-requires-3 : tie.Need-ref-word-at-requires-3
 ref-word-at-requires-3 c κs = search needs
 
--- src/lib.rt:227:14
-put-requires : tie.Need-put-requires
-put-requires c κs = let q = c .before .before .before .before .before .before .before .pre in (q .0 .0, rw (c .before .b-at2 .ensures) (q .1 (sym (c .before .before .before .before .kind-at .ensures) ∙ c .before .before .before .match .keys3)))
+store-variable-requires : tie.Need-store-variable-requires
+store-variable-requires c κs = let q = c .before .before .before .before .before .before .before .pre in (q .0 .0, rw (c .before .b-at2 .ensures) (q .1 (sym (c .before .before .before .before .kind-at .ensures) ∙ c .before .before .before .match .keys3)))
 
--- src/lib.rt:229:17
 prior-requires-2 : tie.Need-prior-requires-2
 prior-requires-2 c κs = search needs
 
--- src/lib.rt:230:17
 prior-requires-3 : tie.Need-prior-requires-3
 prior-requires-3 c κs = search needs
 
--- src/lib.rt:231:17
 ref-word-at-requires-4 : tie.Need-ref-word-at-requires-4
 ref-word-at-requires-4 c κs = search needs
 
--- src/lib.rt:232:17
 ref-word-at-requires-5 : tie.Need-ref-word-at-requires-5
 ref-word-at-requires-5 c κs = search needs
 
--- src/lib.rt:233:70
 cast-reach-2 : tie.Need-cast-reach-2
 cast-reach-2 c = search needs
 
--- src/lib.rt:233:45
 reach-requires-2 : tie.Need-reach-requires-2
 reach-requires-2 c κs = search needs
 
--- src/lib.rt:233:13
 lay-requires-3 : tie.Need-lay-requires-3
 lay-requires-3 c κs = search needs
 
--- src/lib.rt:236:43
 mul-t34 : tie.Need-mul-t34
 mul-t34 c = search needs
 
@@ -106,34 +85,27 @@ add-t35 c = search needs
 wide-requires : tie.Need-wide-requires
 wide-requires c κs = search needs
 
--- src/lib.rt:236:43
 sub-lay : tie.Need-sub-lay
 sub-lay c = search needs
 
--- src/lib.rt:236:90
 cast-reach-3 : tie.Need-cast-reach-3
 cast-reach-3 c = search needs
 
--- src/lib.rt:236:65
 reach-requires-3 : tie.Need-reach-requires-3
 reach-requires-3 c κs = search needs
 
--- src/lib.rt:236:20
 lay-requires-4 : tie.Need-lay-requires-4
 lay-requires-4 c κs = search needs
 
--- src/lib.rt:237:14
 unreachable-requires : tie.Need-unreachable-requires
 unreachable-requires c κs =
     let q = c .before .before .before .before .before .pre .0 in
     let k = c .before .before .kind-at .ensures in
     ⊎-elim (λ w. omega (arith, w .taken, k, q .4)) (λ w. omega (arith, w .1 .left, k, q .5)) (c .if1 .came)
 
--- src/lib.rt:212:1
 same-length : tie.Need-same-length
 same-length c = search needs
 
--- src/lib.rt:212:1
 returns : tie.Need-returns
 unfolding controlIs frameWords block
 returns c s f η K A R e t pass part fit =
@@ -142,11 +114,9 @@ returns c s f η K A R e t pass part fit =
     rw (form-seq _ _ (b .pre .0 .3) k, ← (c .before .before .before .before .before .before .prior .ensures), ← (c .before .before .before .ref-word-at2 .ensures .1))
     (c .before .before .lay .ensures s f η (wait (refAt (b .args .part .now) (b .args .i - 1))) K A R e t (rw (c .before .before .before .before .before .ref-word-at .ensures .0)))
 
--- src/lib.rt:212:1
 same-length-2 : tie.Need-same-length-2
 same-length-2 c = search needs
 
--- src/lib.rt:212:1
 returns-2 : tie.Need-returns-2
 unfolding programOf frameWords block
 returns-2 c s f η K A R e t pass part fit =
@@ -155,11 +125,9 @@ returns-2 c s f η K A R e t pass part fit =
     rw (form-assign _ _ (b .pre .0 .3) k, ← part, ← (c .before .before .before .reach .ensures), ← (c .before .before .before .before .b-at .ensures))
     (c .before .before .lay2 .ensures s f η (Frame.store _) K A R e t refl)
 
--- src/lib.rt:212:1
 same-length-3 : tie.Need-same-length-3
 same-length-3 c = search needs
 
--- src/lib.rt:212:1
 returns-3 : tie.Need-returns-3
 unfolding controlIs valueIs
 returns-3 c s f η K A R e t pass part fit =
@@ -169,13 +137,11 @@ returns-3 c s f η K A R e t pass part fit =
     let x = decl-variable s pass f η K A _ _ _ fit (rw part at w) in
     let y : c .before .before .before .before .b-at2 .result < length η = rw (c .before .before .before .before .b-at2 .ensures, part) x in
     rw (w, ← (c .before .before .before .ref-word-at3 .ensures .1), ← (c .before .before .before .before .b-at2 .ensures))
-    (c .before .before .put .ensures s f η K A R e t y (variables-few s pass _ f η K A fit))
+    (c .before .before .store-variable .ensures s f η K A R e t y (variables-few s pass _ f η K A fit))
 
--- src/lib.rt:212:1
 same-length-4 : tie.Need-same-length-4
 same-length-4 c = search needs
 
--- src/lib.rt:212:1
 returns-4 : tie.Need-returns-4
 unfolding programOf frameWords block
 returns-4 c s f η K A R e t pass part fit =
@@ -185,7 +151,6 @@ returns-4 c s f η K A R e t pass part fit =
     (c .before .before .lay3 .ensures s f η (branch (refAt (b .args .part .now) (c .before .before .before .before .before .before .before .before .prior2 .result)) (refAt (b .args .part .now) (b .args .i - 1))) K A R e t
     (rw (c .before .before .before .before .before .before .ref-word-at4 .ensures .0, c .before .before .before .before .before .ref-word-at5 .ensures .0)))
 
--- src/lib.rt:212:1
 returns-5 : tie.Need-returns-5
 unfolding controlIs refWord
 returns-5 c s f η K A R e t pass part fit =
@@ -193,11 +158,9 @@ returns-5 c s f η K A R e t pass part fit =
     let k = sym (c .before .kind-at .ensures) ∙ c .match .keys5 in
     rw (form-while _ _ (b .pre .0 .3) k) (on-is s _ _ _ _ R _ f η η K A (ap exec (ref-back (ifOf (b .args .i)))) refl e t (b .pre .0 .0 .1) (b .pre .0 .0 .2))
 
--- src/lib.rt:212:1
 same-length-5 : tie.Need-same-length-5
 same-length-5 c = search needs
 
--- src/lib.rt:212:1
 returns-6 : tie.Need-returns-6
 returns-6 c s f η K A R e t pass part fit =
     let b = c .before .before .before .before .before .before .before .before .before .before .before .before in
@@ -205,7 +168,6 @@ returns-6 c s f η K A R e t pass part fit =
     single-done s _ _ _ _ R f η K A _ (b .pre .0 .3) part _ (rw (← k) (search needs)) (rw (← k) (search needs)) (rw (c .before .before .before .before .wide .ensures .0, k))
     (λ fr w. rw (← (c .before .before .before .reach3 .ensures)) (c .before .before .lay4 .ensures s f η fr K A R e t w))
 
--- src/lib.rt:212:1
 returns-7 : tie.Need-returns-7
 returns-7 c = search needs
 
@@ -225,7 +187,7 @@ execute-node-spec =
     lay-requires-2
     b-at-requires-2
     ref-word-at-requires-3
-    put-requires
+    store-variable-requires
     prior-requires-2
     prior-requires-3
     ref-word-at-requires-4

@@ -5,11 +5,9 @@ use borrow.Author.Needs.{needs}
 use Rattle.state_stack.proofs.activations.caller_frames.Statement.{statement}
 use Rattle.state_stack.proofs.activations.caller_frames.Tie as tie
 
--- src/lib.rt:87:5
 activation-word-requires : tie.Need-activation-word-requires
 activation-word-requires c κs = search needs
 
--- src/lib.rt:83:1
 returns : tie.Need-returns
 unfolding activationAt
 returns c f η J g θ L A R e a = c .activation-word .ensures ∙ rw e (caller-count f η J R g θ L A _ _ a refl)

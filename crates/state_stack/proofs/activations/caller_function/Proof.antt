@@ -6,11 +6,9 @@ use borrow.Author.Needs.{needs}
 use Rattle.state_stack.proofs.activations.caller_function.Statement.{statement}
 use Rattle.state_stack.proofs.activations.caller_function.Tie as tie
 
--- src/lib.rt:79:5
 activation-word-requires : tie.Need-activation-word-requires
 activation-word-requires c κs = search needs
 
--- src/lib.rt:75:1
 returns : tie.Need-returns
 unfolding activationAt
 returns c f η J g θ L A R e a = c .activation-word .ensures ∙ rw e (caller-function f η J R g θ L A _ _ a (omega arith))

@@ -7,63 +7,48 @@ use borrow.Author.Needs.{needs}
 use Rattle.state_stack.proofs.activations.enter.Statement.{statement}
 use Rattle.state_stack.proofs.activations.enter.Tie as tie
 
--- src/lib.rt:123:5
 open-requires : tie.Need-open-requires
 open-requires c κs = search needs
 
--- src/lib.rt:124:32
 mul-copy-down : tie.Need-mul-copy-down
 mul-copy-down c = search needs
 
--- src/lib.rt:124:25
 add-copy-down : tie.Need-add-copy-down
 add-copy-down c = search needs
 
--- src/lib.rt:124:25
 add-copy-down-2 : tie.Need-add-copy-down-2
 add-copy-down-2 c = search needs
 
--- src/lib.rt:124:51
 add-copy-down-3 : tie.Need-add-copy-down-3
 add-copy-down-3 c = search needs
 
--- src/lib.rt:124:50
 mul-copy-down-2 : tie.Need-mul-copy-down-2
 mul-copy-down-2 c = search needs
 
--- src/lib.rt:124:44
 add-copy-down-4 : tie.Need-add-copy-down-4
 add-copy-down-4 c = search needs
 
--- src/lib.rt:124:44
 add-copy-down-5 : tie.Need-add-copy-down-5
 add-copy-down-5 c = search needs
 
--- src/lib.rt:124:69
 mul-copy-down-3 : tie.Need-mul-copy-down-3
 mul-copy-down-3 c = search needs
 
--- src/lib.rt:124:5
 copy-down-requires : tie.Need-copy-down-requires
 copy-down-requires c κs = search needs
 
--- src/lib.rt:125:28
 add-put-variable : tie.Need-add-put-variable
 add-put-variable c = search needs
 
--- src/lib.rt:125:5
 put-variable-requires : tie.Need-put-variable-requires
 put-variable-requires c κs = search needs
 
--- src/lib.rt:126:5
 drop-frames-requires : tie.Need-drop-frames-requires
 drop-frames-requires c κs = search needs
 
--- src/lib.rt:119:1
 same-length : tie.Need-same-length
 same-length c = search needs
 
--- src/lib.rt:119:1
 returns : tie.Need-returns
 unfolding frameAt variableAt
 returns c f η h vs l K A R e a n k y short d =

@@ -4,15 +4,12 @@ use borrow.Author.Needs.{needs}
 use Rattle.state_stack.proofs.activations.enter_none.Statement.{statement}
 use Rattle.state_stack.proofs.activations.enter_none.Tie as tie
 
--- src/lib.rt:61:5
 open-requires : tie.Need-open-requires
 open-requires c κs = search needs
 
--- src/lib.rt:57:1
 same-length : tie.Need-same-length
 same-length c = search needs
 
--- src/lib.rt:57:1
 returns : tie.Need-returns
 returns c f η K A R e n k few =
     c .before .before .open .ensures ∙ rw e (calls.enter-none f η K A R _ _ _ n refl refl _ _ _ k (c .before .before .before .before .before .pre .1) few)

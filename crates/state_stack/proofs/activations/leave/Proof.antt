@@ -7,27 +7,21 @@ use borrow.Author.Needs.{needs}
 use Rattle.state_stack.proofs.activations.leave.Statement.{statement}
 use Rattle.state_stack.proofs.activations.leave.Tie as tie
 
--- src/lib.rt:59:5
 drop-frames-requires : tie.Need-drop-frames-requires
 drop-frames-requires c κs = search needs
 
--- src/lib.rt:60:31
 add-drop-activation : tie.Need-add-drop-activation
 add-drop-activation c = search needs
 
--- src/lib.rt:60:5
 drop-activation-requires : tie.Need-drop-activation-requires
 drop-activation-requires c κs = search needs
 
--- src/lib.rt:61:5
 put-frame-count-requires : tie.Need-put-frame-count-requires
 put-frame-count-requires c κs = search needs
 
--- src/lib.rt:55:1
 same-length : tie.Need-same-length
 same-length c = search needs
 
--- src/lib.rt:55:1
 returns : tie.Need-returns
 unfolding frameAt activationAt
 returns c f η J g θ L A R e a n j =

@@ -6,23 +6,18 @@ use borrow.Author.Needs.{needs}
 use Rattle.state_stack.proofs.activations.open.Statement.{statement}
 use Rattle.state_stack.proofs.activations.open.Tie as tie
 
--- src/lib.rt:52:5
 put-frame-count-requires : tie.Need-put-frame-count-requires
 put-frame-count-requires c κs = search needs
 
--- src/lib.rt:53:30
 add-put-activation : tie.Need-add-put-activation
 add-put-activation c = search needs
 
--- src/lib.rt:53:5
 put-activation-requires : tie.Need-put-activation-requires
 put-activation-requires c κs = search needs
 
--- src/lib.rt:48:1
 same-length : tie.Need-same-length
 same-length c = search needs
 
--- src/lib.rt:48:1
 returns : tie.Need-returns
 unfolding activationAt
 returns c =

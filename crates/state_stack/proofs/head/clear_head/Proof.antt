@@ -7,35 +7,27 @@ use borrow.Author.Needs.{needs}
 use Rattle.state_stack.proofs.head.clear_head.Statement.{statement}
 use Rattle.state_stack.proofs.head.clear_head.Tie as tie
 
--- src/lib.rt:139:5
 slice-write-m : tie.Need-slice-write-m
 slice-write-m c = search needs
 
--- src/lib.rt:140:5
 slice-write-m-2 : tie.Need-slice-write-m-2
 slice-write-m-2 c = simp length-set (omega arith)
 
--- src/lib.rt:141:5
 slice-write-m-3 : tie.Need-slice-write-m-3
 slice-write-m-3 c = simp length-set (omega arith)
 
--- src/lib.rt:142:5
 slice-write-m-4 : tie.Need-slice-write-m-4
 slice-write-m-4 c = simp length-set (omega arith)
 
--- src/lib.rt:143:5
 slice-write-m-5 : tie.Need-slice-write-m-5
 slice-write-m-5 c = simp length-set (omega arith)
 
--- src/lib.rt:144:5
 put-frame-count-requires : tie.Need-put-frame-count-requires
 put-frame-count-requires c κs = search needs
 
--- src/lib.rt:135:1
 same-length : tie.Need-same-length
 same-length c = let e = c .before .before .put-frame-count .kept .0 in omega (arith, simp length-set at e)
 
--- src/lib.rt:135:1
 returns : tie.Need-returns
 unfolding activationAt
 returns c t α f η K A R e a =

@@ -5,15 +5,12 @@ use borrow.Author.Needs.{needs}
 use Rattle.state_stack.proofs.head.enter_main.Statement.{statement}
 use Rattle.state_stack.proofs.head.enter_main.Tie as tie
 
--- src/lib.rt:70:5
 put-activation-requires : tie.Need-put-activation-requires
 put-activation-requires c κs = search needs
 
--- src/lib.rt:66:1
 same-length : tie.Need-same-length
 same-length c = search needs
 
--- src/lib.rt:66:1
 returns : tie.Need-returns
 unfolding activationAt
 returns c z R e all few = c .before .before .put-activation .ensures ∙ rw e (calls.enter-main R z _ _ _ all refl few)

@@ -7,19 +7,15 @@ use borrow.Author.Needs.{needs}
 use Rattle.state_stack.proofs.head.leave_main.Statement.{statement}
 use Rattle.state_stack.proofs.head.leave_main.Tie as tie
 
--- src/lib.rt:78:5
 drop-frames-requires : tie.Need-drop-frames-requires
 drop-frames-requires c κs = search needs
 
--- src/lib.rt:79:5
 drop-activation-requires : tie.Need-drop-activation-requires
 drop-activation-requires c κs = search needs
 
--- src/lib.rt:74:1
 same-length : tie.Need-same-length
 same-length c = search needs
 
--- src/lib.rt:74:1
 returns : tie.Need-returns
 unfolding frameAt activationAt
 returns c z f η J R e all j =

@@ -7,39 +7,30 @@ use borrow.Author.Needs.{needs}
 use Rattle.state_stack.proofs.head.store_head.Statement.{statement}
 use Rattle.state_stack.proofs.head.store_head.Tie as tie
 
--- src/lib.rt:126:5
 slice-write-m : tie.Need-slice-write-m
 slice-write-m c = search needs
 
--- src/lib.rt:127:5
 slice-write-m-2 : tie.Need-slice-write-m-2
 slice-write-m-2 c = simp length-set (omega arith)
 
--- src/lib.rt:128:12
 add-m : tie.Need-add-m
 add-m c = search needs
 
--- src/lib.rt:128:5
 slice-write-m-3 : tie.Need-slice-write-m-3
 slice-write-m-3 c = simp length-set (omega arith)
 
--- src/lib.rt:129:5
 slice-write-m-4 : tie.Need-slice-write-m-4
 slice-write-m-4 c = simp length-set (omega arith)
 
--- src/lib.rt:130:5
 slice-write-m-5 : tie.Need-slice-write-m-5
 slice-write-m-5 c = simp length-set (omega arith)
 
--- src/lib.rt:131:5
 put-frame-count-requires : tie.Need-put-frame-count-requires
 put-frame-count-requires c κs = search needs
 
--- src/lib.rt:122:1
 same-length : tie.Need-same-length
 same-length c = let e = c .before .before .put-frame-count .kept .0 in omega (arith, simp length-set at e)
 
--- src/lib.rt:122:1
 returns : tie.Need-returns
 unfolding activationAt
 returns c t α f η K A R e a k w =

@@ -8,7 +8,7 @@ use borrow.Author.Needs.{needs}
 use Rattle.state_words.specs.Meaning.{frameAt}
 use Rattle.records.specs.Fields.{sizeAt}
 use Rattle.spec_machine.specs.Values.{Value}
-use Rattle.spec_machine.specs.Program.{Head}
+use Rattle.spec_machine.specs.Program.{Operation}
 use Rattle.spec_machine.specs.Machine.{Frame, gather, Saved}
 use Rattle.spec_image.specs.Image.{savedFrames}
 use Rattle.spec_image.specs.Core.{core}
@@ -19,73 +19,57 @@ use Rattle.state_stack.proofs.top.push_gather.Tie as tie
 abbrev Inv-loop : tie.InvT-loop
 Inv-loop m₀ part n kind x k last j₀ c₀ m j c =
     (j < 8) × (c ≤ last) × (length m ≡ length m₀)
-    × ((f : ℕ) (η : List Value) (h : Head) (K : List Frame) (A : List Saved) (R : List ℕ) → m₀ ≡ core f η (gather h [] (replicate j₀ 0) ∷ K) A ++ R → length A < 32 → n ≡ length (K ++ savedFrames A)
+    × ((f : ℕ) (η : List Value) (h : Operation) (K : List Frame) (A : List Saved) (R : List ℕ) → m₀ ≡ core f η (gather h [] (replicate j₀ 0) ∷ K) A ++ R → length A < 32 → n ≡ length (K ++ savedFrames A)
     → j₀ ≡ k - 1 → 1 ≤ k → k ≤ 8 → Stored (sizeAt part) k last f η h K A R m j c)
 
 abbrev μ-loop : tie.MeasureT-loop
 μ-loop m₀ part n kind x k last j₀ c₀ m j c = j
 
--- src/lib.rt:59:40
 sub-put-frame : tie.Need-sub-put-frame Inv-loop μ-loop
 sub-put-frame c = search needs
 
--- src/lib.rt:59:5
 put-frame-requires : tie.Need-put-frame-requires Inv-loop μ-loop
 put-frame-requires c κs = search needs
 
--- src/lib.rt:60:17
 sub-j : tie.Need-sub-j Inv-loop μ-loop
 sub-j c = search needs
 
--- src/lib.rt:62:5
 loop-holds : tie.Need-loop-holds Inv-loop μ-loop
 loop-holds c = (search needs, search needs, refl, λ f η h K A R e few n d lo hi. stored-none (sizeAt _) _ _ f η h K A R _ _ d lo hi e)
 
--- src/lib.rt:63:9
 sub-j-2 : tie.Need-sub-j-2 Inv-loop μ-loop
 sub-j-2 c = search needs
 
--- src/lib.rt:64:42
 cast-m : tie.Need-cast-m Inv-loop μ-loop
 cast-m c = search needs
 
--- src/lib.rt:64:18
 mul-m : tie.Need-mul-m Inv-loop μ-loop
 mul-m c = search needs
 
--- src/lib.rt:64:11
 add-m : tie.Need-add-m Inv-loop μ-loop
 add-m c = search needs
 
--- src/lib.rt:64:32
 mul-m-2 : tie.Need-mul-m-2 Inv-loop μ-loop
 mul-m-2 c = search needs
 
--- src/lib.rt:64:28
 add-m-2 : tie.Need-add-m-2 Inv-loop μ-loop
 add-m-2 c = search needs
 
--- src/lib.rt:64:11
 add-m-3 : tie.Need-add-m-3 Inv-loop μ-loop
 add-m-3 c = search needs
 
--- src/lib.rt:64:9
 mul-m-3 : tie.Need-mul-m-3 Inv-loop μ-loop
 mul-m-3 c = search needs
 
--- src/lib.rt:64:9
 slice-write-m : tie.Need-slice-write-m Inv-loop μ-loop
 slice-write-m c = search needs
 
--- src/lib.rt:65:9
 prior-requires : tie.Need-prior-requires Inv-loop μ-loop
 prior-requires c κs = search needs
 
--- src/lib.rt:62:5
 loop-less : tie.Need-loop-less Inv-loop μ-loop
 loop-less c = search needs
 
--- src/lib.rt:62:5
 loop-again : tie.Need-loop-again Inv-loop μ-loop
 loop-again c =
     let l = c .before .before .loop in (
@@ -96,11 +80,9 @@ loop-again c =
           store-more _ _ _ f η h K A R _ _ _ _ _ _ _ few n (search needs) refl refl (c .prior .ensures) (l .inv .3 f η h K A R e few n d lo hi),
     )
 
--- src/lib.rt:55:1
 same-length : tie.Need-same-length Inv-loop μ-loop
 same-length c = c .before .loop .inv .2 ∙ c .before .before .before .before .put-frame .kept .0
 
--- src/lib.rt:55:1
 returns : tie.Need-returns Inv-loop μ-loop
 unfolding frameAt
 returns c =

@@ -5,111 +5,86 @@ use borrow.Author.Needs.{needs}
 use Rattle.state_stack.proofs.top.top_frame.Statement.{statement}
 use Rattle.state_stack.proofs.top.top_frame.Tie as tie
 
--- src/lib.rt:37:21
 mul-at : tie.Need-mul-at
 mul-at c = search needs
 
--- src/lib.rt:37:14
 add-at : tie.Need-add-at
 add-at c = search needs
 
--- src/lib.rt:38:16
 mul-kind : tie.Need-mul-kind
 mul-kind c = search needs
 
--- src/lib.rt:38:16
 shared-slice-read-kind : tie.Need-shared-slice-read-kind
 shared-slice-read-kind c = search needs
 
--- src/lib.rt:39:15
 add-x : tie.Need-add-x
 add-x c = search needs
 
--- src/lib.rt:39:13
 mul-x : tie.Need-mul-x
 mul-x c = search needs
 
--- src/lib.rt:39:13
 shared-slice-read-x : tie.Need-shared-slice-read-x
 shared-slice-read-x c = search needs
 
--- src/lib.rt:40:15
 add-y : tie.Need-add-y
 add-y c = search needs
 
--- src/lib.rt:40:13
 mul-y : tie.Need-mul-y
 mul-y c = search needs
 
--- src/lib.rt:40:13
 shared-slice-read-y : tie.Need-shared-slice-read-y
 shared-slice-read-y c = search needs
 
--- src/lib.rt:42:36
 add-t14 : tie.Need-add-t14
 add-t14 c = search needs
 
--- src/lib.rt:42:34
 mul-t15 : tie.Need-mul-t15
 mul-t15 c = search needs
 
--- src/lib.rt:42:34
 shared-slice-read-t17 : tie.Need-shared-slice-read-t17
 shared-slice-read-t17 c = search needs
 
--- src/lib.rt:43:32
 add-t18 : tie.Need-add-t18
 add-t18 c = search needs
 
--- src/lib.rt:43:30
 mul-t19 : tie.Need-mul-t19
 mul-t19 c = search needs
 
--- src/lib.rt:43:30
 shared-slice-read-t21 : tie.Need-shared-slice-read-t21
 shared-slice-read-t21 c = search needs
 
--- src/lib.rt:33:1
 returns : tie.Need-returns
 unfolding Shows
 returns c f η fr K A R e few n = is-operator _ _ fr (seen _ _ f η fr K A R e few n) (c .before .match .keys1)
 
--- src/lib.rt:33:1
 returns-2 : tie.Need-returns-2
 unfolding Shows
 returns-2 c f η fr K A R e few n = is-call _ _ fr (seen _ _ f η fr K A R e few n) (c .before .match .keys2)
 
--- src/lib.rt:33:1
 returns-3 : tie.Need-returns-3
 unfolding Shows
 returns-3 c f η fr K A R e few n = let s = seen _ _ f η fr K A R e few n in said _ _ fr s 3 (c .match .keys3) ∙ rw (s .first)
 
--- src/lib.rt:33:1
 returns-4 : tie.Need-returns-4
 unfolding Shows
 returns-4 c f η fr K A R e few n = let s = seen _ _ f η fr K A R e few n in said _ _ fr s 4 (c .match .keys4) ∙ rw (s .first)
 
--- src/lib.rt:33:1
 returns-5 : tie.Need-returns-5
 unfolding Shows
 returns-5 c f η fr K A R e few n = let s = seen _ _ f η fr K A R e few n in said _ _ fr s 5 (c .match .keys5) ∙ rw (s .first)
 
--- src/lib.rt:33:1
 returns-6 : tie.Need-returns-6
 unfolding Shows
 returns-6 c f η fr K A R e few n = let s = seen _ _ f η fr K A R e few n in said _ _ fr s 6 (c .match .keys6) ∙ rw (s .first, s .second)
 
--- src/lib.rt:33:1
 returns-7 : tie.Need-returns-7
 unfolding Shows
 returns-7 c f η fr K A R e few n = said _ _ fr (seen _ _ f η fr K A R e few n) 7 (c .match .keys7)
 
--- src/lib.rt:33:1
 returns-8 : tie.Need-returns-8
 unfolding Shows
 returns-8 c f η fr K A R e few n = said _ _ fr (seen _ _ f η fr K A R e few n) 8 (c .match .keys8)
 
--- src/lib.rt:33:1
 returns-9 : tie.Need-returns-9
 unfolding Shows
 returns-9 c f η fr K A R e few n =

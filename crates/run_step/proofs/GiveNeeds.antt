@@ -6,12 +6,12 @@ use native.Mathlib.Omega.{arith}
 use lib.ListN.{length, getD}
 use Rattle.records.specs.Fields.{functions, countOf}
 use Rattle.records.specs.Parts.{partOf}
-use Rattle.records.proofs.Parts.{part-length}
+use Rattle.records.proofs.PartWalks.{part-length}
 use Rattle.spec_language.specs.Check.{accepted, checkOf}
 use Rattle.spec_machine.specs.Values as values
 use Rattle.spec_machine.specs.Values.{int, tBool, typeV}
-use Rattle.spec_machine.specs.Program.{Head, op, fn}
-use Rattle.spec_machine.specs.Machine.{Frame, gather, and, val, Saved, saved, calm, running}
+use Rattle.spec_machine.specs.Program.{Operation, op, fn}
+use Rattle.spec_machine.specs.Machine.{Frame, gather, and, val, Saved, saved, emptyEnv, running}
 use Rattle.spec_machine.specs.Fit as fit
 use Rattle.spec_machine.specs.File.{programOf}
 use Rattle.spec_image.specs.Image.{savedFrames}
@@ -22,13 +22,13 @@ use Rattle.spec_image.proofs.Operands.{read-value, read-node}
 use Rattle.state_words.specs.declared.Value.{Value}
 use Rattle.state_words.specs.Meaning.{valueIs}
 use Rattle.state_stack.specs.Shows.{Gathers}
-use Rattle.run_rules.specs.declared.Head as code
-use Rattle.run_rules.specs.Comes.{Tells, Bounds, Called}
+use Rattle.run_rules.specs.declared.Registers as code
+use Rattle.run_rules.specs.StepsTo.{Describes, Bounds, Called}
 use Rattle.records.specs.Starts.{Starts}
 use Rattle.run_rules.proofs.Steps.{counted-under}
-use Rattle.run_step.specs.Done.{IsInt, IsTruth, Stands}
+use Rattle.run_step.specs.StepsBy.{IsInt, IsTruth, AtFitState}
 use Rattle.run_step.proofs.Sorts.{is-int, is-truth}
-use Rattle.run_step.proofs.Gives.{ints, arguments, waits, conjunct, assigned, main-int, caller-known}
+use Rattle.run_step.proofs.GiveShapes.{ints, arguments, waits, conjunct, assigned, main-int, caller-known}
 
 -- a fit state with a value at hand has a top frame
 pub record Over (s table : List ℕ) (v : values.Value) (h : code.Head) (l : List ℕ) : Type 0 where
@@ -40,14 +40,14 @@ pub record Over (s table : List ℕ) (v : values.Value) (h : code.Head) (l : Lis
   pub callers : List Saved
   pub rest : List ℕ
   pub held : l ≡ core (h .function) variables (top ∷ frames) callers ++ rest
-  pub tells : Tells s h (h .function) (top ∷ frames) callers
-  pub fit : fit.Fit (programOf s) (running (val v) calm (h .function) variables (top ∷ frames) callers)
+  pub tells : Describes s h (h .function) (top ∷ frames) callers
+  pub fit : fit.Fit (programOf s) (running (val v) emptyEnv (h .function) variables (top ∷ frames) callers)
 
-pub over : (s table : List ℕ) (v : values.Value) (h : code.Head) (l : List ℕ) → Stands s table (val v) h l → Over s table v h l
+pub over : (s table : List ℕ) (v : values.Value) (h : code.Head) (l : List ℕ) → AtFitState s table (val v) h l → Over s table v h l
 over s table v h l st = go (st .frames) (st .held) (st .tells) (st .fit)
   where
-    go : (K : List Frame) → l ≡ core (h .function) (st .variables) K (st .callers) ++ st .rest → Tells s h (h .function) K (st .callers)
-        → fit.Fit (programOf s) (running (val v) calm (h .function) (st .variables) K (st .callers)) → Over s table v h l
+    go : (K : List Frame) → l ≡ core (h .function) (st .variables) K (st .callers) ++ st .rest → Describes s h (h .function) K (st .callers)
+        → fit.Fit (programOf s) (running (val v) emptyEnv (h .function) (st .variables) K (st .callers)) → Over s table v h l
     go [] e t f = absurd (f .proper .frames)
     go (fr ∷ K) e t f =
         record {
@@ -64,11 +64,11 @@ over s table v h l st = go (st .frames) (st .held) (st .tells) (st .fit)
         }
 
 -- the limits of a fit state
-pub limited : {s : List ℕ} {c : _} {h : code.Head} {f : ℕ} {η : List values.Value} {K : List Frame} {A : List Saved} → Tells s h f K A
-    → fit.Fit (programOf s) (running c calm f η K A) → (h .callers < 32) × (h .under + h .frames ≤ 512)
+pub limited : {s : List ℕ} {c : _} {h : code.Head} {f : ℕ} {η : List values.Value} {K : List Frame} {A : List Saved} → Describes s h f K A
+    → fit.Fit (programOf s) (running c emptyEnv f η K A) → (h .callers < 32) × (h .under + h .frames ≤ 512)
 limited {K} {A} t f = (omega (arith, t .callers, f .within .0), omega (arith, t .under, t .frames, f .within .1, length-frames A))
 
-pub shaped : {fr : Frame} {k : Head} {vs ws : List values.Value} {ns : List ℕ} → fr ≡ gather k vs ns → vs ≡ ws → ns ≡ [] → fr ≡ gather k ws []
+pub shaped : {fr : Frame} {k : Operation} {vs ws : List values.Value} {ns : List ℕ} → fr ≡ gather k vs ns → vs ≡ ws → ns ≡ [] → fr ≡ gather k ws []
 shaped e a b = e ∙ rw (a, b)
 
 pub empty : (l : List ℕ) (z : ℕ) → z ≡ length l → z ≡ 0 → l ≡ []
@@ -105,7 +105,7 @@ module _ (s table : List ℕ) (v : Value) (h : code.Head) (l : List ℕ) (x : Ov
           rw k (read-value (h .function) (x .variables) (x .frames) (x .callers) (x .rest) _ _ few under refl (op o) (int (i .first) ∷ []) [] (omega arith) 0 0 _ (omega arith) (omega arith) refl),
         )
 
-    pub operand-ready : (k : Head) → Gathers (x .top) k y z → (z ≡ 0 → ⊥) → (y < 8) × (1 ≤ z) × (getD l (place + (4 + y * 2)) 0 < countOf s (h .function))
+    pub operand-ready : (k : Operation) → Gathers (x .top) k y z → (z ≡ 0 → ⊥) → (y < 8) × (1 ≤ z) × (getD l (place + (4 + y * 2)) 0 < countOf s (h .function))
     operand-ready k g e = go (g .nodes) (g .is) (g .waits)
       where
         go : (ns : List ℕ) → x .top ≡ gather k (g .values) ns → z ≡ length ns → (y < 8) × (1 ≤ z) × (getD l (place + (4 + y * 2)) 0 < countOf s (h .function))

@@ -11,8 +11,8 @@ use Rattle.spec_language.specs.Check.{accepted, checkOf}
 use Rattle.spec_language.specs.Types as types
 use Rattle.spec_language.proofs.Accept.{accepted-is, function}
 use Rattle.spec_machine.specs.Values.{Value, nothing, int, truth, Ty, tInt, tBool, typeV}
-use Rattle.spec_machine.specs.Program.{Head, op, fn}
-use Rattle.spec_machine.specs.Machine.{Frame, gather, and, val, Saved, saved, calm, running}
+use Rattle.spec_machine.specs.Program.{Operation, op, fn}
+use Rattle.spec_machine.specs.Machine.{Frame, gather, and, val, Saved, saved, emptyEnv, running}
 use Rattle.spec_machine.specs.Fit.{Fit}
 use Rattle.spec_machine.specs.File.{funOf, programOf}
 use Rattle.spec_machine.proofs.Files.{accepted-program}
@@ -41,7 +41,7 @@ int-typed (truth b) e = absurd (let z : _≡_ {A = ℕ} 2 1 = e in omega arith)
 
 module _ (s : List ℕ) (passed : checkOf s ≡ accepted) (f : ℕ) (η : List Value) (v : Value) (K : List Frame) (A : List Saved) where
   abbrev At : Frame → Type 0
-  At fr = Fit (programOf s) (running (val v) calm f η (fr ∷ K) A)
+  At fr = Fit (programOf s) (running (val v) emptyEnv f η (fr ∷ K) A)
 
   -- an operator's operands
   pub ints : (o : ℕ) (vs : List Value) (ns : List ℕ) → At (gather (op o) vs ns) → ns ≡ [] → Ints vs v o
@@ -71,7 +71,7 @@ module _ (s : List ℕ) (passed : checkOf s ≡ accepted) (f : ℕ) (η : List V
       (k, p, omega (arith, p, w .least), omega (arith, p, w .params))
 
   -- an operand that waits
-  pub waits : (h : Head) (vs : List Value) (e : ℕ) (ns : List ℕ) → At (gather h vs (e ∷ ns)) → (length vs + suc (length ns) ≤ 7) × (e < countOf s f)
+  pub waits : (h : Operation) (vs : List Value) (e : ℕ) (ns : List ℕ) → At (gather h vs (e ∷ ns)) → (length vs + suc (length ns) ≤ 7) × (e < countOf s f)
   unfolding framesOf programOf
   waits h vs e ns fit = (fit-narrow (programOf s) (file-sized s passed) _ fit .frames .0, ltb-true _ _ (fit .proper .frames .1 .0 .0))
 

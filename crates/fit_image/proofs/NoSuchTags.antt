@@ -2,8 +2,8 @@
 use mathlib.Core.Path.{_≡_, refl}
 use mathlib.Core.Bool.{false}
 use Prim.Native.Nat.{ℕ, zero, suc}
-use Rattle.fit_image.specs.Blocks.{valueOk, controlOk}
-use Rattle.fit_image.specs.Words.{tagOk}
+use Rattle.fit_image.specs.BlockTests.{valueOk, controlOk}
+use Rattle.fit_image.specs.MemoryTest.{tagOk}
 
 pub no-type : (t w : ℕ) → (t ≡ 0 → ⊥) → (t ≡ 1 → ⊥) → (t ≡ 2 → ⊥) → valueOk t w ≡ false
 unfolding valueOk

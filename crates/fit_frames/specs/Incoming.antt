@@ -6,25 +6,25 @@ use lib.Dec.{eqb}
 use Rattle.varset.specs.Sets.{Set, with, both}
 use Rattle.spec_language.specs.Flow.{leaves, returns}
 use Rattle.spec_machine.specs.Values.{Ty, tNone, tBool, typeV}
-use Rattle.spec_machine.specs.Program.{Program, typeN, varType, wants, gives}
+use Rattle.spec_machine.specs.Program.{Program, typeN, typeOfVar, wants, gives}
 use Rattle.spec_machine.specs.Machine.{Frame, gather, and, wait, branch, check, Control, val, eval, exec}
 use Rattle.spec_machine.specs.Fit.{isConst}
-use Rattle.spec_machine.specs.Test.{areTy, reads, ok, exprIn, stmtIn, exprsIn, hasVar, knownHead, readsNodes}
+use Rattle.spec_machine.specs.Test.{areTy, reads, ok, exprIn, stmtIn, exprsIn, hasVar, knownOperation, readsNodes}
 
 -- whether a value is given and its type, the variables that have a value, and whether something that returns has come
-pub data Travel : Type 0 where
-  travel : Bool → Ty → Set → Bool → Travel
+pub data Incoming : Type 0 where
+  incoming : Bool → Ty → Set → Bool → Incoming
 
 -- a value of the type comes down
-abbrev pub giving : Ty → Set → Travel
-giving t d = travel true t d false
+abbrev pub giving : Ty → Set → Incoming
+giving t d = incoming true t d false
 
 -- the frame takes what it is given
 abbrev pub typed : Program → ℕ → Bool → Ty → Frame → Bool
-typed P f b t (gather h vs ns) = b && (areTy (wants P h) (map typeV vs ++ (t ∷ map (typeN P f) ns)) && (exprsIn P f ns && knownHead P h))
+typed P f b t (gather h vs ns) = b && (areTy (wants P h) (map typeV vs ++ (t ∷ map (typeN P f) ns)) && (exprsIn P f ns && knownOperation P h))
 typed P f b t (and n) = b && (eqb t tBool && (exprIn P f n && eqb (typeN P f n) tBool))
 typed P f b t (wait r) = not b && stmtIn P f r
-typed P f b t (Frame.store x) = b && (eqb t (varType (P .fun f) x) && hasVar P f x)
+typed P f b t (Frame.store x) = b && (eqb t (typeOfVar (P .fun f) x) && hasVar P f x)
 typed P f b t (branch r q) = b && (eqb t tBool && (stmtIn P f r && stmtIn P f q))
 typed P f b t Frame.leave = b && eqb t (P .fun f .result)
 typed P f b t check = b && eqb t tBool
@@ -42,24 +42,24 @@ flown P f d check = true
 flown P f d Frame.discard = true
 
 -- the test of a frame
-abbrev pub suits : Program → ℕ → Travel → Frame → Bool
-suits P f (travel b t d e) fr = typed P f b t fr && flown P f d fr
+abbrev pub frameFits : Program → ℕ → Incoming → Frame → Bool
+frameFits P f (incoming b t d e) fr = typed P f b t fr && flown P f d fr
 
 -- what it hands on
-abbrev pub onward : Program → ℕ → Travel → Frame → Travel
-onward P f (travel b t d e) (gather h vs ns) = travel true (gives P h) d e
-onward P f (travel b t d e) (and n) = travel true tBool d e
-onward P f (travel b t d e) (wait r) = travel false tNone (leaves (P .stmt f r) d) (e || returns (P .stmt f r))
-onward P f (travel b t d e) (Frame.store x) = travel false tNone (with d x) e
-onward P f (travel b t d e) (branch r q) =
-    travel false tNone (both (leaves (P .stmt f r) d) (leaves (P .stmt f q) d)) (e || (returns (P .stmt f r) && returns (P .stmt f q)))
-onward P f (travel b t d e) Frame.leave = travel false tNone d true
-onward P f (travel b t d e) check = travel false tNone d e
-onward P f (travel b t d e) Frame.discard = travel false tNone d e
+abbrev pub handsOn : Program → ℕ → Incoming → Frame → Incoming
+handsOn P f (incoming b t d e) (gather h vs ns) = incoming true (gives P h) d e
+handsOn P f (incoming b t d e) (and n) = incoming true tBool d e
+handsOn P f (incoming b t d e) (wait r) = incoming false tNone (leaves (P .stmt f r) d) (e || returns (P .stmt f r))
+handsOn P f (incoming b t d e) (Frame.store x) = incoming false tNone (with d x) e
+handsOn P f (incoming b t d e) (branch r q) =
+    incoming false tNone (both (leaves (P .stmt f r) d) (leaves (P .stmt f q) d)) (e || (returns (P .stmt f r) && returns (P .stmt f q)))
+handsOn P f (incoming b t d e) Frame.leave = incoming false tNone d true
+handsOn P f (incoming b t d e) check = incoming false tNone d e
+handsOn P f (incoming b t d e) Frame.discard = incoming false tNone d e
 
 -- under the last frame no value is given, and something that returns has come
-abbrev pub ends : Travel → Bool
-ends (travel b t d e) = not b && e
+abbrev pub ends : Incoming → Bool
+ends (incoming b t d e) = not b && e
 
 -- the test of the control, and what it hands to the top frame
 abbrev pub startOk : Program → ℕ → Set → Control → Bool
@@ -67,7 +67,7 @@ startOk P f d (val v) = true
 startOk P f d (eval n) = exprIn P f n && (not (isConst (P .look f n)) && reads P f n d)
 startOk P f d (exec r) = stmtIn P f r && ok P f r d
 
-abbrev pub start : Program → ℕ → Set → Control → Travel
+abbrev pub start : Program → ℕ → Set → Control → Incoming
 start P f d (val v) = giving (typeV v) d
 start P f d (eval n) = giving (typeN P f n) d
-start P f d (exec r) = travel false tNone (leaves (P .stmt f r) d) (returns (P .stmt f r))
+start P f d (exec r) = incoming false tNone (leaves (P .stmt f r) d) (returns (P .stmt f r))

@@ -6,8 +6,8 @@ use native.Mathlib.Omega.{arith}
 use lib.ListN.{length}
 use Rattle.records.specs.Fields.{functions, paramsOf, varsOf, kindAt}
 use Rattle.records.specs.Parts.{Laid}
-use Rattle.records.proofs.Parts.{part-length}
-use Rattle.spec_language.specs.Known.{Known, Calls}
+use Rattle.records.proofs.PartWalks.{part-length}
+use Rattle.spec_language.specs.Known.{Known, CallsKnown}
 use Rattle.spec_language.proofs.Accept.{Accepted, accepted-is, parts, nodes-known, calls-known}
 use Rattle.check_flow.proofs.Walks.{inner}
 use Rattle.check_scopes.specs.Counts.{Named}
@@ -29,7 +29,7 @@ module _ {s : List ℕ} {f : ℕ} {t : List ℕ} {n : ℕ} (p : Part s f t n) wh
   pub nodes : Known t n
   nodes = rw (p .part, p .count) (nodes-known s all f (p .known))
 
-  pub calls : Calls (functions s) t n
+  pub calls : CallsKnown (functions s) t n
   calls = rw (p .part, p .count) (calls-known s all f (p .known))
 
   pub named : Named t n

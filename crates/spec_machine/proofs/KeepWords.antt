@@ -11,54 +11,54 @@ use Rattle.varset.specs.Lowest.{pick}
 use Rattle.records.specs.Bytes.{u16At, u32At}
 use Rattle.records.specs.Fields.{countOf, kindAt, bAt}
 use Rattle.records.specs.Parts.{startOf, partOf}
-use Rattle.spec_machine.specs.File.{kids, andOf, looks, lookAt, programOf}
+use Rattle.spec_machine.specs.File.{kids, andForm, looks, lookAt, programOf}
 use Rattle.spec_machine.specs.Values.{Value, nothing, int, truth, Ty}
-use Rattle.spec_machine.specs.Program.{Look, const, apply, Fun, Program}
+use Rattle.spec_machine.specs.Program.{ExprForm, const, apply, Fun, Program}
 use Rattle.spec_machine.specs.Machine.{State, Rule, Event, reach, reachL, blank, entered, Step}
-use Rattle.spec_machine.specs.Fit.{Word, Words, ControlWord, InWords}
+use Rattle.spec_machine.specs.Fit.{IsWord, AllWords, ControlInWord, InWords}
 use Rattle.spec_machine.proofs.Operators.{result-word}
-use Rattle.records.proofs.Tables.{each-at}
+use Rattle.records.proofs.EntryTables.{each-at}
 
 -- the ints among a program's constants are words
 abbrev pub ConstWords : Program → Type 0
 ConstWords P = (f n c : ℕ) → P .look f n ≡ const (int c) → c < 2 ^ 32
 
-pub word-at : (vs : List Value) (x : ℕ) → Words vs → Word (getD vs x nothing)
+pub word-at : (vs : List Value) (x : ℕ) → AllWords vs → IsWord (getD vs x nothing)
 word-at [] x w = tt
 word-at (v ∷ vs) zero w = w .0
 word-at (v ∷ vs) (suc x) w = word-at vs x (w .1)
 
-words-set : (vs : List Value) (x : ℕ) (v : Value) → Word v → Words vs → Words (set vs x v)
+words-set : (vs : List Value) (x : ℕ) (v : Value) → IsWord v → AllWords vs → AllWords (set vs x v)
 words-set [] x v h w = tt
 words-set (u ∷ vs) zero v h w = (h, w .1)
 words-set (u ∷ vs) (suc x) v h w = (w .0, words-set vs x v h (w .1))
 
-words-append : (vs ws : List Value) → Words vs → Words ws → Words (vs ++ ws)
+words-append : (vs ws : List Value) → AllWords vs → AllWords ws → AllWords (vs ++ ws)
 words-append [] ws u w = w
 words-append (v ∷ vs) ws u w = (u .0, words-append vs ws (u .1) w)
 
-words-blank : (ts : List Ty) → Words (blank ts)
+words-blank : (ts : List Ty) → AllWords (blank ts)
 words-blank [] = tt
 words-blank (t ∷ ts) = (tt, words-blank ts)
 
-words-entered : (g : Fun) (vs : List Value) → Words vs → Words (entered g vs)
+words-entered : (g : Fun) (vs : List Value) → AllWords vs → AllWords (entered g vs)
 words-entered g vs w = words-append vs (blank (g .locals)) w (words-blank (g .locals))
 
 module _ (P : Program) (constants : ConstWords P) where
-  const-word : (f n : ℕ) (v : Value) → P .look f n ≡ const v → Word v
+  const-word : (f n : ℕ) (v : Value) → P .look f n ≡ const v → IsWord v
   const-word f n nothing e = tt
   const-word f n (int c) e = constants f n c e
   const-word f n (truth b) e = tt
 
-  reach-word : (f n : ℕ) → ControlWord (reach P f n)
+  reach-word : (f n : ℕ) → ControlInWord (reach P f n)
   reach-word f n = go (P .look f n) refl
     where
-      go : (l : Look) → P .look f n ≡ l → ControlWord (reachL n l)
+      go : (l : ExprForm) → P .look f n ≡ l → ControlInWord (reachL n l)
       go (const v) e = const-word f n v e
-      go (Look.var x) e = tt
+      go (ExprForm.var x) e = tt
       go (apply h ns) e = tt
-      go (Look.and a b) e = tt
-      go Look.stray e = tt
+      go (ExprForm.and a b) e = tt
+      go ExprForm.stray e = tt
 
   pub words-kept : {r : Rule} {v : Event} {s t : State} → Step P r v s t → InWords s → InWords t
   words-kept (Step.first {f = f} {n = n} e) w = (reach-word f n, w .1, (tt, w .2), w .3)
@@ -114,15 +114,15 @@ b-word : (t : List ℕ) (i : ℕ) → Bytes t → bAt t i < 2 ^ 32
 unfolding bAt u32At u16At
 b-word t i h = omega (arith, h (12 * i + 4), h (12 * i + 4 + 1), h (12 * i + 4 + 2), h (12 * i + 4 + 2 + 1))
 
-abbrev LookWord : Look → Type 0
-LookWord (const v) = Word v
-LookWord (Look.var x) = Unit {0}
+abbrev LookWord : ExprForm → Type 0
+LookWord (const v) = IsWord v
+LookWord (ExprForm.var x) = Unit {0}
 LookWord (apply h ns) = Unit {0}
-LookWord (Look.and a b) = Unit {0}
-LookWord Look.stray = Unit {0}
+LookWord (ExprForm.and a b) = Unit {0}
+LookWord ExprForm.stray = Unit {0}
 
-and-word : (ns : List ℕ) → LookWord (andOf ns)
-unfolding andOf
+and-word : (ns : List ℕ) → LookWord (andForm ns)
+unfolding andForm
 and-word [] = tt
 and-word (a ∷ []) = tt
 and-word (a ∷ (b ∷ [])) = tt
@@ -132,9 +132,9 @@ look-word : (t : List ℕ) (i : ℕ) → Bytes t → LookWord (lookAt t i)
 unfolding lookAt looks
 look-word t i h = go (eqb (kindAt t i) 15)
   where
-    go : (x : Bool) → LookWord (pick x (const nothing) (getD (looks t i) (kindAt t i) Look.stray))
+    go : (x : Bool) → LookWord (pick x (const nothing) (getD (looks t i) (kindAt t i) ExprForm.stray))
     go true = tt
-    go false = each-at (λ k. LookWord) (looks t i) Look.stray (b-word t i h, (tt, (tt, (tt, (and-word (kids t i), (tt, tt)))))) (λ k. tt) (kindAt t i)
+    go false = each-at (λ k. LookWord) (looks t i) ExprForm.stray (b-word t i h, (tt, (tt, (tt, (and-word (kids t i), (tt, tt)))))) (λ k. tt) (kindAt t i)
 
 pub file-words : (s : List ℕ) → Bytes s → ConstWords (programOf s)
 unfolding programOf

@@ -12,17 +12,17 @@ use Rattle.words.specs.Blocks.{allZero}
 use Rattle.words.proofs.Blocks.{parted}
 use Rattle.words.proofs.Tests.{both, all-zeros, zeros-all}
 use Rattle.spec_machine.specs.Values.{Value}
-use Rattle.spec_machine.specs.Program.{Head, op, fn}
+use Rattle.spec_machine.specs.Program.{Operation, op, fn}
 use Rattle.spec_machine.specs.Machine.{Frame, gather, and, wait, branch, check}
 use Rattle.spec_image.specs.Layout.{filled, valuesWords, nodesWords, block, frameWords, Activation, activation, activationWords}
 use Rattle.spec_image.specs.Decode.{valuesOf, nodesOf, operands, frames, frameOf, activationOf}
 use Rattle.spec_image.specs.Narrow.{NarrowFrame, NarrowActivation}
-use Rattle.spec_image.proofs.Parts.{length-values, length-nodes, length-valuesOf, length-nodesOf, ref-word}
+use Rattle.spec_image.proofs.ValueWords.{length-values, length-nodes, length-valuesOf, length-nodesOf, ref-word}
 use Rattle.spec_image.proofs.Frames.{headKind, headWord}
 use Rattle.spec_image.proofs.Operands.{gather-words}
 use Rattle.spec_image.proofs.Variables.{activation-words}
-use Rattle.fit_image.specs.Blocks.{valuesOk, nodesOk, operandsOk, frameOk, activationOk}
-use Rattle.fit_image.proofs.Slots.{values-sound, nodes-sound, values-pass, nodes-pass}
+use Rattle.fit_image.specs.BlockTests.{valuesOk, nodesOk, operandsOk, frameOk, activationOk}
+use Rattle.fit_image.proofs.SlotTests.{values-sound, nodes-sound, values-pass, nodes-pass}
 
 -- words that are all zero, by their number
 pub zeros : (l : List ℕ) (n : ℕ) → length l ≡ n → allZero l ≡ true → l ≡ replicate n 0
@@ -30,7 +30,7 @@ zeros l n h e = rw (← h) (all-zeros l e)
 
 -- ---- frames that gather
 
-module _ (h : Head) (y z : ℕ) (slots : List ℕ) (long : length slots ≡ 16) (e : operandsOk y z slots ≡ true) where
+module _ (h : Operation) (y z : ℕ) (slots : List ℕ) (long : length slots ≡ 16) (e : operandsOk y z slots ≡ true) where
   few : y + z ≤ 7
   unfolding operandsOk
   few = leb-true (y + z) 7 (both (leb (y + z) 7) _ e .0)

@@ -4,9 +4,9 @@ use Rattle.varset.specs.Sets.{Set, has}
 use Rattle.spec_language.specs.Statements.{Statement}
 use Rattle.spec_language.specs.Flow.{leaves, lacks}
 use Rattle.spec_machine.specs.Test.{clear}
-use Rattle.fit_flow.specs.declared.Passage.{Passage}
+use Rattle.fit_flow.specs.declared.Flowed.{Flowed}
 
 -- the answer for the statement s begun with the variables d
-pub record Goes (s : Statement) (d : Set) (r : Passage) : Type 0 where
+pub record FlowedIs (s : Statement) (d : Set) (r : Flowed) : Type 0 where
   pub ok : r .ok ≡ clear (lacks s d)
   pub left : has (r .left .0) ≡ leaves s d

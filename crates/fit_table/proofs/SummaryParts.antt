@@ -12,7 +12,7 @@ use Rattle.spec_language.specs.Statements.{Read, Statement, Nop, Seq, Assign, D
 use Rattle.spec_language.specs.Flow.{declares, leaves, returns}
 use Rattle.spec_language.proofs.Flows.{ok-nop, ok-seq, ok-assign, ok-decl, ok-if, ok-while, ok-return, ok-assert, ok-expr}
 use Rattle.fit_table.specs.Summary.{Needs, Summary}
-use Rattle.fit_table.proofs.Tables.{in-turn, in-branches, in-scope, as-found, adding, dropping}
+use Rattle.fit_table.proofs.SetTables.{in-turn, in-branches, in-scope, as-found, adding, dropping}
 
 empty-sub : (e : Set) (n : ℕ) → has n ≡ none → Sub (has n) e
 unfolding none

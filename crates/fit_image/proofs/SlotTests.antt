@@ -12,8 +12,8 @@ use Rattle.spec_machine.specs.Values.{Value, nothing, int, truth}
 use Rattle.spec_machine.specs.Machine.{Control, val, eval, exec}
 use Rattle.spec_image.specs.Layout.{bit, valueWords, valuesWords, nodesWords, controlWords}
 use Rattle.spec_image.specs.Decode.{valueOf, valuesOf, nodesOf, controlOf}
-use Rattle.spec_image.proofs.Parts.{ref-word}
-use Rattle.fit_image.specs.Blocks.{valueOk, valuesOk, nodesOk, controlOk}
+use Rattle.spec_image.proofs.ValueWords.{ref-word}
+use Rattle.fit_image.specs.BlockTests.{valueOk, valuesOk, nodesOk, controlOk}
 
 -- ---- what passes
 

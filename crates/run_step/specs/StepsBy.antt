@@ -9,16 +9,16 @@ use Rattle.records.specs.Children.{arityAt}
 use Rattle.spec_language.specs.Check.{accepted, checkOf}
 use Rattle.spec_machine.specs.Values.{Value}
 use Rattle.spec_machine.specs.Program.{Ref, node, ifOf, seqOf}
-use Rattle.spec_machine.specs.Machine.{Frame, Control, Saved, calm, running}
+use Rattle.spec_machine.specs.Machine.{Frame, Control, Saved, emptyEnv, running}
 use Rattle.spec_machine.specs.Next.{Move, stuck, goes}
 use Rattle.spec_machine.specs.Fit.{Fit}
 use Rattle.spec_machine.specs.File.{programOf}
 use Rattle.spec_image.specs.Core.{core}
 use Rattle.state_words.specs.declared.Value as code
 use Rattle.state_words.specs.declared.Value.the-variants.{Nothing, Int, Truth}
-use Rattle.run_rules.specs.declared.Head.{Head}
+use Rattle.run_rules.specs.declared.Registers.{Registers}
 use Rattle.run_rules.specs.declared.Stepped.{Stepped}
-use Rattle.run_rules.specs.Comes.{Tells, Comes}
+use Rattle.run_rules.specs.StepsTo.{Describes, StepsTo}
 use Rattle.records.specs.Starts.{Starts}
 
 -- a value that is an int, or a bool
@@ -47,18 +47,18 @@ inLoop true w = seqOf w
 inLoop false w = ifOf w
 
 -- the node of a reference stands in a part t after its children
-abbrev pub Inside : List ℕ → ℕ → Type 0
-Inside t i = (12 * i + 12 ≤ length t) × (i < 4096) × (0 < i)
+abbrev pub InPart : List ℕ → ℕ → Type 0
+InPart t i = (12 * i + 12 ≤ length t) × (i < 4096) × (0 < i)
 
 -- the statement of a reference stands in a part t
 abbrev pub Executes : List ℕ → Ref → Type 0
-Executes t (node i) = Inside t i × (7 ≤ kindAt t i) × (kindAt t i ≤ 14) × (kindAt t i ≡ 9 → bAt t i < 64)
+Executes t (node i) = InPart t i × (7 ≤ kindAt t i) × (kindAt t i ≤ 14) × (kindAt t i ≡ 9 → bAt t i < 64)
 Executes t Ref.nop = Unit {0}
-Executes t (ifOf w) = Inside t w × (kindAt t w ≡ 11)
-Executes t (seqOf w) = Inside t w × (kindAt t w ≡ 11)
+Executes t (ifOf w) = InPart t w × (kindAt t w ≡ 11)
+Executes t (seqOf w) = InPart t w × (kindAt t w ≡ 11)
 
 -- the file is accepted, and the memory l and the head h hold a fit state with the control c
-pub record Stands (s table : List ℕ) (c : Control) (h : Head) (l : List ℕ) : Type 0 where
+pub record AtFitState (s table : List ℕ) (c : Control) (h : Registers) (l : List ℕ) : Type 0 where
   pub passed : checkOf s ≡ accepted
   pub starts : Starts s table
   pub variables : List Value
@@ -66,10 +66,10 @@ pub record Stands (s table : List ℕ) (c : Control) (h : Head) (l : List ℕ) :
   pub callers : List Saved
   pub rest : List ℕ
   pub held : l ≡ core (h .function) variables frames callers ++ rest
-  pub tells : Tells s h (h .function) frames callers
-  pub fit : Fit (programOf s) (running c calm (h .function) variables frames callers)
+  pub tells : Describes s h (h .function) frames callers
+  pub fit : Fit (programOf s) (running c emptyEnv (h .function) variables frames callers)
 
 -- the step of a move, which is not stuck
-abbrev pub Done : List ℕ → Stepped → List ℕ → List ℕ → List ℕ → Move → Type 0
-Done s r l m R stuck = ⊥
-Done s r l m R (goes rule t) = Comes s r l m R t
+abbrev pub StepsBy : List ℕ → Stepped → List ℕ → List ℕ → List ℕ → Move → Type 0
+StepsBy s r l m R stuck = ⊥
+StepsBy s r l m R (goes rule t) = StepsTo s r l m R t

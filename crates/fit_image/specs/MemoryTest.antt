@@ -8,7 +8,7 @@ use Rattle.words.specs.Blocks.{allZero}
 use Rattle.words.specs.Stacks.{blockAt}
 use Rattle.spec_machine.specs.Fit.{callerLimit, frameLimit}
 use Rattle.spec_image.specs.Decode.{heldIn}
-use Rattle.fit_image.specs.Blocks.{controlOk, frameOk, activationOk}
+use Rattle.fit_image.specs.BlockTests.{controlOk, frameOk, activationOk}
 
 module _ (w : ℕ) (ok : List ℕ → Bool) where
   -- n blocks of w words from a place on pass a test

@@ -7,12 +7,12 @@ use lib.ListN.{length, getD, take, replicate, length-append, length-replicate}
 use lib.Seq.{length-take-le, drop-at, getD-take}
 use Rattle.words.specs.Stacks.{Every, Wide, Back}
 use Rattle.spec_machine.specs.Values.{Value}
-use Rattle.spec_machine.specs.Program.{Head, op, fn}
+use Rattle.spec_machine.specs.Program.{Operation, op, fn}
 use Rattle.spec_machine.specs.Machine.{Frame, gather, and, wait, branch, check}
 use Rattle.spec_image.specs.Layout.{filled, valuesWords, nodesWords, block, gathering, frameWords, Activation, activation, activationWords}
 use Rattle.spec_image.specs.Decode.{operands, frames, frameOf, activationOf}
 use Rattle.spec_image.specs.Narrow.{NarrowFrame, NarrowActivation}
-use Rattle.spec_image.proofs.Parts.{ref-back, length-values, length-nodes, values-back, nodes-back, take-over}
+use Rattle.spec_image.proofs.ValueWords.{ref-back, length-values, length-nodes, values-back, nodes-back, take-over}
 
 -- a block has its width, whatever it holds
 pub length-filled : (w : ℕ) (l : List ℕ) → length (filled w l) ≡ w
@@ -51,7 +51,7 @@ unfolding activationWords
 activation-wide (activation f k η) = length-filled 136 _
 
 -- at most 7 operands are read back from the 16 words after the first four
-operands-back : (h : Head) (vs : List Value) (ns : List ℕ) → length vs + length ns ≤ 7
+operands-back : (h : Operation) (vs : List Value) (ns : List ℕ) → length vs + length ns ≤ 7
     → operands h (length vs) (length ns) (take 16 ((valuesWords vs ++ nodesWords ns) ++ replicate 20 0)) ≡ gather h vs ns
 unfolding operands
 operands-back h vs ns q =

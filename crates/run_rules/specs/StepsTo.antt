@@ -7,18 +7,18 @@ use lib.ListN.{length, replicate}
 use Rattle.records.specs.Fields.{functions, countOf}
 use Rattle.records.specs.Parts.{startOf}
 use Rattle.spec_machine.specs.Values.{Value}
-use Rattle.spec_machine.specs.Machine.{arith, abort, Frame, Saved, saved, calm, State, exception, returned, running}
-use Rattle.spec_machine.specs.Run.{within}
+use Rattle.spec_machine.specs.Machine.{arith, abort, Frame, Saved, saved, emptyEnv, State, exception, returned, running}
+use Rattle.spec_machine.specs.Run.{withinLimits}
 use Rattle.spec_image.specs.Image.{savedFrames}
 use Rattle.spec_image.specs.Core.{core}
 use Rattle.state_words.specs.declared.Control.{Control}
 use Rattle.state_words.specs.Meaning.{controlIs}
-use Rattle.run_rules.specs.declared.Head.{Head}
+use Rattle.run_rules.specs.declared.Registers.{Registers}
 use Rattle.run_rules.specs.declared.Stepped.{Stepped}
 use Rattle.run_rules.specs.declared.Stepped.the-variants.{Went, Full, Returned, Arith, Abort}
 
 -- the current function f with its part's first byte and node count, how many callers and frames there are
-pub record Tells (s : List ℕ) (h : Head) (f : ℕ) (K : List Frame) (A : List Saved) : Type 0 where
+pub record Describes (s : List ℕ) (h : Registers) (f : ℕ) (K : List Frame) (A : List Saved) : Type 0 where
   pub function : h .function ≡ f
   pub start : h .start ≡ 12 * startOf s f
   pub count : h .count ≡ countOf s f
@@ -27,11 +27,11 @@ pub record Tells (s : List ℕ) (h : Head) (f : ℕ) (K : List Frame) (A : List 
   pub under : h .under ≡ length (savedFrames A)
 
 -- the memory is long enough, and the limits are kept
-abbrev pub Bounds : Head → List ℕ → Type 0
+abbrev pub Bounds : Registers → List ℕ → Type 0
 Bounds h l = (16384 ≤ length l) × (h .callers < 32) × (h .under + h .frames ≤ 512)
 
 -- the current function was called by a function of the file
-pub record Called (s : List ℕ) (h : Head) (l : List ℕ) : Type 0 where
+pub record Called (s : List ℕ) (h : Registers) (l : List ℕ) : Type 0 where
   pub function : ℕ
   pub variables : List Value
   pub frames : List Frame
@@ -41,28 +41,28 @@ pub record Called (s : List ℕ) (h : Head) (l : List ℕ) : Type 0 where
   pub callers : List Saved
   pub rest : List ℕ
   pub held : l ≡ core function variables frames (saved caller callerVariables callerFrames ∷ callers) ++ rest
-  pub tells : Tells s h function frames (saved caller callerVariables callerFrames ∷ callers)
+  pub tells : Describes s h function frames (saved caller callerVariables callerFrames ∷ callers)
   pub known : caller < functions s
 
 -- the state t goes on with the control c, and the memory m and the head h hold the rest of it
-pub record On (s : List ℕ) (c : Control) (h : Head) (m R : List ℕ) (t : State) : Type 0 where
+pub record Continues (s : List ℕ) (c : Control) (h : Registers) (m R : List ℕ) (t : State) : Type 0 where
   pub function : ℕ
   pub variables : List Value
   pub frames : List Frame
   pub callers : List Saved
-  pub is : t ≡ running (controlIs c) calm function variables frames callers
+  pub is : t ≡ running (controlIs c) emptyEnv function variables frames callers
   pub held : m ≡ core function variables frames callers ++ R
-  pub tells : Tells s h function frames callers
-  pub limits : within t ≡ true
+  pub tells : Describes s h function frames callers
+  pub limits : withinLimits t ≡ true
 
 -- the words of a state are all zero
 abbrev pub Cleared : List ℕ → List ℕ → Type 0
 Cleared m R = (z : ℕ) → z ≡ 16384 → m ≡ replicate z 0 ++ R
 
 -- a step to the state t, from the memory l to the memory m
-unfoldable pub Comes : List ℕ → Stepped → List ℕ → List ℕ → List ℕ → State → Type 0
-Comes s (Went c h) l m R t = On s c h m R t
-Comes s Full l m R t = (within t ≡ false) × (m ≡ l)
-Comes s (Returned w) l m R t = (t ≡ returned calm w) × Cleared m R
-Comes s Arith l m R t = (t ≡ exception arith) × Cleared m R
-Comes s Abort l m R t = (t ≡ exception abort) × Cleared m R
+unfoldable pub StepsTo : List ℕ → Stepped → List ℕ → List ℕ → List ℕ → State → Type 0
+StepsTo s (Went c h) l m R t = Continues s c h m R t
+StepsTo s Full l m R t = (withinLimits t ≡ false) × (m ≡ l)
+StepsTo s (Returned w) l m R t = (t ≡ returned emptyEnv w) × Cleared m R
+StepsTo s Arith l m R t = (t ≡ exception arith) × Cleared m R
+StepsTo s Abort l m R t = (t ≡ exception abort) × Cleared m R

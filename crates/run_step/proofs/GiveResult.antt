@@ -9,37 +9,37 @@ use Rattle.records.specs.Fields.{paramsOf, varsOf}
 use Rattle.records.specs.Parts.{partOf}
 use Rattle.spec_language.specs.Check.{accepted, checkOf}
 use Rattle.spec_machine.specs.Values.{Value, int, truth, result}
-use Rattle.spec_machine.specs.Program.{Head, op, fn, Ref}
-use Rattle.spec_machine.specs.Machine.{Frame, gather, and, branch, check, val, exec, Saved, saved, calm, exception, abort, running, Rule, reachL, entered}
+use Rattle.spec_machine.specs.Program.{Operation, op, fn, Ref}
+use Rattle.spec_machine.specs.Machine.{Frame, gather, and, branch, check, val, exec, Saved, saved, emptyEnv, exception, abort, running, Rule, reachL, entered}
 use Rattle.spec_machine.specs.Next.{settle, onTruth, leaving, goes, give}
 use Rattle.spec_machine.specs.Fit.{Fit}
 use Rattle.spec_machine.specs.File.{lookAt, funOf, programOf}
 use Rattle.spec_image.specs.Core.{core}
 use Rattle.state_stack.specs.Shows.{Gathers}
-use Rattle.run_rules.specs.declared.Head as code
+use Rattle.run_rules.specs.declared.Registers as code
 use Rattle.run_rules.specs.declared.Stepped.{Stepped}
-use Rattle.run_rules.specs.Comes.{Tells, Comes}
-use Rattle.run_step.specs.Done.{Done}
-use Rattle.run_step.proofs.Gives.{ints, arguments, waits, assigned}
-use Rattle.run_step.proofs.Given.{shaped, empty}
+use Rattle.run_rules.specs.StepsTo.{Describes, StepsTo}
+use Rattle.run_step.specs.StepsBy.{StepsBy}
+use Rattle.run_step.proofs.GiveShapes.{ints, arguments, waits, assigned}
+use Rattle.run_step.proofs.GiveNeeds.{shaped, empty}
 
 gives-operator : (s : List ℕ) (r : Stepped) (l m R : List ℕ) (f : ℕ) (η : List Value) (fr : Frame) (K : List Frame) (A : List Saved) (v : Value) (o a b : ℕ)
-    → fr ≡ gather (op o) (int a ∷ []) [] → v ≡ int b → Done s r l m R (settle calm f η K A (result (getD s 8 0) o a b))
-    → Done s r l m R (give (programOf s) v calm f η (fr ∷ K) A)
+    → fr ≡ gather (op o) (int a ∷ []) [] → v ≡ int b → StepsBy s r l m R (settle emptyEnv f η K A (result (getD s 8 0) o a b))
+    → StepsBy s r l m R (give (programOf s) v emptyEnv f η (fr ∷ K) A)
 unfolding programOf
 gives-operator s r l m R f η fr K A v o a b w i d = rw (w, i) d
 
 module _ (s : List ℕ) (r : Stepped) (h : code.Head) (l m R : List ℕ) (f : ℕ) (η : List Value) (fr : Frame) (K : List Frame) (A : List Saved) (v : Value)
-    (passed : checkOf s ≡ accepted) (held : l ≡ core f η (fr ∷ K) A ++ R) (tells : Tells s h f (fr ∷ K) A)
-    (fit : Fit (programOf s) (running (val v) calm f η (fr ∷ K) A)) where
+    (passed : checkOf s ≡ accepted) (held : l ≡ core f η (fr ∷ K) A ++ R) (tells : Describes s h f (fr ∷ K) A)
+    (fit : Fit (programOf s) (running (val v) emptyEnv f η (fr ∷ K) A)) where
   -- it is done for a given frame
   abbrev Gave : Type 0
-  Gave = Done s r l m R (give (programOf s) v calm f η (fr ∷ K) A)
+  Gave = StepsBy s r l m R (give (programOf s) v emptyEnv f η (fr ∷ K) A)
 
   module _ (y z : ℕ) where
     pub gave-operator : (o : ℕ) → Gathers fr (op o) y z → z ≡ 0
-        → ((a b : ℕ) → l ≡ core f η (gather (op o) (int a ∷ []) [] ∷ K) A ++ R → Tells s h f (gather (op o) (int a ∷ []) [] ∷ K) A → v ≡ int b
-        → Done s r l m R (settle calm f η K A (result (getD s 8 0) o a b))) → Gave
+        → ((a b : ℕ) → l ≡ core f η (gather (op o) (int a ∷ []) [] ∷ K) A ++ R → Describes s h f (gather (op o) (int a ∷ []) [] ∷ K) A → v ≡ int b
+        → StepsBy s r l m R (settle emptyEnv f η K A (result (getD s 8 0) o a b))) → Gave
     unfolding programOf
     gave-operator o g e q =
         let n = empty (g .nodes) z (g .waits) e in
@@ -48,10 +48,10 @@ module _ (s : List ℕ) (r : Stepped) (h : code.Head) (l m R : List ℕ) (f : �
         let d = q (i .first) (i .second) (rw w at held) (rw w at tells) (i .hand) in
         gives-operator s r l m R f η fr K A v o (i .first) (i .second) w (i .hand) d
 
-    pub gave-next : (k : Head) (t : List ℕ) → t ≡ partOf s f → Gathers fr k y z → (z ≡ 0 → ⊥)
-        → ((vs : List Value) (e : ℕ) (ns : List ℕ) → l ≡ core f η (gather k vs (e ∷ ns) ∷ K) A ++ R → Tells s h f (gather k vs (e ∷ ns) ∷ K) A
+    pub gave-next : (k : Operation) (t : List ℕ) → t ≡ partOf s f → Gathers fr k y z → (z ≡ 0 → ⊥)
+        → ((vs : List Value) (e : ℕ) (ns : List ℕ) → l ≡ core f η (gather k vs (e ∷ ns) ∷ K) A ++ R → Describes s h f (gather k vs (e ∷ ns) ∷ K) A
         → length vs + suc (length ns) ≤ 7 → y ≡ length vs → z ≡ suc (length ns)
-        → Comes s r l m R (running (reachL e (lookAt t e)) calm f η (gather k (vs ++ (v ∷ [])) ns ∷ K) A)) → Gave
+        → StepsTo s r l m R (running (reachL e (lookAt t e)) emptyEnv f η (gather k (vs ++ (v ∷ [])) ns ∷ K) A)) → Gave
     unfolding programOf
     gave-next k t part g e q = go (g .nodes) (g .is) (g .waits)
       where
@@ -62,9 +62,9 @@ module _ (s : List ℕ) (r : Stepped) (h : code.Head) (l m R : List ℕ) (f : �
             rw (i, ← part) (q (g .values) d ns (rw i at held) (rw i at tells) n (g .done) w)
 
     pub gave-call : (k : ℕ) → Gathers fr (fn k) y z → z ≡ 0
-        → ((vs : List Value) → l ≡ core f η (gather (fn k) vs [] ∷ K) A ++ R → Tells s h f (gather (fn k) vs [] ∷ K) A → y ≡ length vs
+        → ((vs : List Value) → l ≡ core f η (gather (fn k) vs [] ∷ K) A ++ R → Describes s h f (gather (fn k) vs [] ∷ K) A → y ≡ length vs
         → paramsOf s k ≡ suc y → suc y ≤ varsOf s k
-        → Comes s r l m R (running (exec (funOf s k .body)) calm k (entered (funOf s k) (vs ++ (v ∷ []))) [] (saved f η K ∷ A))) → Gave
+        → StepsTo s r l m R (running (exec (funOf s k .body)) emptyEnv k (entered (funOf s k) (vs ++ (v ∷ []))) [] (saved f η K ∷ A))) → Gave
     unfolding programOf
     gave-call k g e q =
         let n = empty (g .nodes) z (g .waits) e in
@@ -74,24 +74,24 @@ module _ (s : List ℕ) (r : Stepped) (h : code.Head) (l m R : List ℕ) (f : �
         rw i (q (g .values) (rw i at held) (rw i at tells) d (omega (arith, d, p .1)) (omega (arith, d, p .2)))
 
   pub gave-and : (n : ℕ) (t : List ℕ) → t ≡ partOf s f → fr ≡ and n
-      → Done s r l m R (onTruth v (goes Rule.and-true (running (reachL n (lookAt t n)) calm f η K A)) (goes Rule.and-false (running (val (truth false)) calm f η K A))) → Gave
+      → StepsBy s r l m R (onTruth v (goes Rule.and-true (running (reachL n (lookAt t n)) emptyEnv f η K A)) (goes Rule.and-false (running (val (truth false)) emptyEnv f η K A))) → Gave
   unfolding programOf
   gave-and n t part e q = rw (e, ← part) q
 
   pub gave-store : (x : ℕ) → fr ≡ Frame.store x
-      → (x < length η → length η ≤ 64 → Comes s r l m R (running (exec Ref.nop) calm f (set η x v) K A)) → Gave
+      → (x < length η → length η ≤ 64 → StepsTo s r l m R (running (exec Ref.nop) emptyEnv f (set η x v) K A)) → Gave
   gave-store x e q = let p = assigned s passed f η v K A x (rw e at fit) in rw e (q (p .0) (p .1))
 
   pub gave-branch : (a b : Ref) → fr ≡ branch a b
-      → Done s r l m R (onTruth v (goes Rule.if-true (running (exec a) calm f η K A)) (goes Rule.if-false (running (exec b) calm f η K A))) → Gave
+      → StepsBy s r l m R (onTruth v (goes Rule.if-true (running (exec a) emptyEnv f η K A)) (goes Rule.if-false (running (exec b) emptyEnv f η K A))) → Gave
   gave-branch a b e q = rw e q
 
-  pub gave-leave : fr ≡ Frame.leave → Done s r l m R (leaving calm v A) → Gave
+  pub gave-leave : fr ≡ Frame.leave → StepsBy s r l m R (leaving emptyEnv v A) → Gave
   gave-leave e q = rw e q
 
   pub gave-assert : fr ≡ check
-      → Done s r l m R (onTruth v (goes Rule.assert-true (running (exec Ref.nop) calm f η K A)) (goes Rule.assert-false (exception abort))) → Gave
+      → StepsBy s r l m R (onTruth v (goes Rule.assert-true (running (exec Ref.nop) emptyEnv f η K A)) (goes Rule.assert-false (exception abort))) → Gave
   gave-assert e q = rw e q
 
-  pub gave-discard : fr ≡ Frame.discard → Comes s r l m R (running (exec Ref.nop) calm f η K A) → Gave
+  pub gave-discard : fr ≡ Frame.discard → StepsTo s r l m R (running (exec Ref.nop) emptyEnv f η K A) → Gave
   gave-discard e q = rw e q

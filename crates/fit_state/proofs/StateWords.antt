@@ -11,10 +11,10 @@ use Rattle.words.specs.Stacks.{blockAt, entries, Every}
 use Rattle.words.specs.Segments.{total}
 use Rattle.words.proofs.Stacks.{every-drop}
 use Rattle.spec_machine.specs.Values.{nothing, int, truth}
-use Rattle.spec_machine.specs.Program.{Head, op, fn}
-use Rattle.spec_machine.specs.Machine.{Frame, Control, val, eval, exec, calm, State, main}
-use Rattle.spec_machine.specs.Test.{word, words, frameWords, controlWord, savedWords, inWords}
-use Rattle.spec_machine.proofs.Words.{take-below, drop-below}
+use Rattle.spec_machine.specs.Program.{Operation, op, fn}
+use Rattle.spec_machine.specs.Machine.{Frame, Control, val, eval, exec, emptyEnv, State, main}
+use Rattle.spec_machine.specs.Test.{isWord, allWords, framesInWords, controlInWord, savedInWords, inWords}
+use Rattle.spec_machine.proofs.KeepWords.{take-below, drop-below}
 use Rattle.spec_image.specs.Layout.{Activation, activation}
 use Rattle.spec_image.specs.Decode.{valueOf, valuesOf, refOf, operands, frames, frameOf, controlOf, activationOf, framesHeld, callersOf, runningOf, activationsIn, framesIn, states, stateOf}
 
@@ -40,25 +40,25 @@ every-entries Q w dec q l h a (suc n) = (q (blockAt w l a n) (take-below (2 ^ 32
 
 -- ---- values, frames, activations, controls
 
-value-word : (t w : ℕ) → w < 2 ^ 32 → word (valueOf t w) ≡ true
+value-word : (t w : ℕ) → w < 2 ^ 32 → isWord (valueOf t w) ≡ true
 unfolding valueOf
 value-word t w h = go (eqb t 0) (eqb t 1)
   where
-    go : (a b : Bool) → word (pick a nothing (pick b (int w) (truth (eqb w 1)))) ≡ true
+    go : (a b : Bool) → isWord (pick a nothing (pick b (int w) (truth (eqb w 1)))) ≡ true
     go true b = refl
     go false true = lt-ltb w (2 ^ 32) h
     go false false = refl
 
-values-words : (n : ℕ) (l : List ℕ) → Small l → words (valuesOf n l) ≡ true
+values-words : (n : ℕ) (l : List ℕ) → Small l → allWords (valuesOf n l) ≡ true
 unfolding valuesOf
 values-words zero l h = refl
 values-words (suc n) l h = rw (value-word (getD l 0 0) (getD l 1 0) (h 1), values-words n (drop 2 l) (drop-below (2 ^ 32) 2 l h))
 
 -- a frame adds no int that is no word
 abbrev Plain : Frame → Type 0
-Plain fr = (K : List Frame) → frameWords (fr ∷ K) ≡ frameWords K
+Plain fr = (K : List Frame) → framesInWords (fr ∷ K) ≡ framesInWords K
 
-operands-plain : (h : Head) (n m : ℕ) (l : List ℕ) → Small l → Plain (operands h n m l)
+operands-plain : (h : Operation) (n m : ℕ) (l : List ℕ) → Small l → Plain (operands h n m l)
 unfolding operands
 operands-plain h n m l s K = rw (values-words n l s)
 
@@ -78,36 +78,36 @@ frame-plain b s =
     )
     (λ K. refl)
 
-plain-words : (K : List Frame) → Every Plain K → frameWords K ≡ true
+plain-words : (K : List Frame) → Every Plain K → framesInWords K ≡ true
 plain-words [] h = refl
 plain-words (fr ∷ K) h = h .0 K ∙ plain-words K (h .1)
 
 abbrev Wordy : Activation → Type 0
-Wordy (activation f k η) = words η ≡ true
+Wordy (activation f k η) = allWords η ≡ true
 
 activation-wordy : (b : List ℕ) → Small b → Wordy (activationOf b)
 unfolding activationOf
 activation-wordy b s = values-words (getD b 2 0) (drop 8 b) (drop-below (2 ^ 32) 8 b s)
 
-control-word : (form w : ℕ) → w < 2 ^ 32 → controlWord (controlOf form w) ≡ true
+control-word : (form w : ℕ) → w < 2 ^ 32 → controlInWord (controlOf form w) ≡ true
 unfolding controlOf
 control-word form w h = go (eqb form 1) (eqb form 2) (eqb form 3) (eqb form 4)
   where
     go : (a b c d : Bool)
-        → controlWord (pick a (val nothing) (pick b (val (int w)) (pick c (val (truth (eqb w 1))) (pick d (eval w) (exec (refOf w)))))) ≡ true
+        → controlInWord (pick a (val nothing) (pick b (val (int w)) (pick c (val (truth (eqb w 1))) (pick d (eval w) (exec (refOf w)))))) ≡ true
     go true b c d = refl
     go false true c d = lt-ltb w (2 ^ 32) h
     go false false true d = refl
     go false false false true = refl
     go false false false false = refl
 
-callers-words : (X : List Activation) (K : List Frame) → Every Wordy X → Every Plain K → savedWords (callersOf X K) ≡ true
+callers-words : (X : List Activation) (K : List Frame) → Every Wordy X → Every Plain K → savedInWords (callersOf X K) ≡ true
 unfolding callersOf
 callers-words [] K h p = refl
 callers-words (activation f k η ∷ X) K h p =
     rw (h .0, plain-words (take k K) (every-take Plain k K p), callers-words X (drop k K) (h .1) (every-drop Plain k K p))
 
-running-words : (c : Control) (X : List Activation) (K : List Frame) → controlWord c ≡ true → Every Wordy X → Every Plain K → inWords (runningOf c X K) ≡ true
+running-words : (c : Control) (X : List Activation) (K : List Frame) → controlInWord c ≡ true → Every Wordy X → Every Plain K → inWords (runningOf c X K) ≡ true
 unfolding runningOf
 running-words c [] K e h p = refl
 running-words c (activation f k η ∷ X) K e h p =
@@ -121,6 +121,6 @@ small-words m s =
     let x = every-entries Wordy 136 activationOf activation-wordy m s 128 (getD m 2 0) in
     let k = every-entries Plain 20 frameOf frame-plain m s 4480 (total framesHeld (activationsIn m)) in
     let one = lt-ltb (getD m 1 0) (2 ^ 32) (s 1) in
-    getD-so (λ (z : State). inWords z ≡ true) (states m) (getD m 0 0) (main calm)
+    getD-so (λ (z : State). inWords z ≡ true) (states m) (getD m 0 0) (main emptyEnv)
     (refl, (refl, (running-words (controlOf (getD m 3 0) (getD m 4 0)) (activationsIn m) (framesIn m) c x k, (one, (one, (refl, (refl, tt)))))))
     refl
