@@ -9,36 +9,15 @@ use lib.ListN.{length}
 use Rattle.varset.specs.Sets.{Set, has, none, with, without}
 use Rattle.varset.specs.declared.VarSet.{VarSet}
 use Rattle.records.specs.Fields.{kindAt, aAt, bAt, sizeAt}
-use Rattle.records.specs.Children.{arities, arityOf, arityAt}
 use Rattle.records.specs.declared.Found.{Found}
 use Rattle.records.specs.declared.Found.the-variants.{At, Nothing}
-use Rattle.records.proofs.Ranges.{range-is}
 use Rattle.spec_language.specs.Statements.{Read, Statement, Seq, Decl, If, While, prior, last, readsOf, statementAt}
 use Rattle.spec_language.specs.Flow.{declares, leaves, missing, lacks}
-use Rattle.spec_language.specs.Known.{Known, namesVariable}
+use Rattle.spec_language.specs.Known.{Known}
 use Rattle.spec_language.proofs.Trees.{statement-seq, statement-decl, statement-if, statement-while, lacking-below}
 use Rattle.spec_language.proofs.Rules.{leaves-assign, leaves-rest, declares-rest, lacks-assign, lacks-expression, lacks-rest}
 use Rattle.check_flow.specs.Follows.{Follows}
 use Rattle.check_flow.specs.declared.Flow.{Flow}
-
--- a node of kind 7 to 14 has a child, so it is not the first
-pub inner : {t : List ℕ} {n i : ℕ} (kind : ℕ) → Known t n → i < n → kindAt t i ≡ kind → 7 ≤ kind → kind < 15 → 0 < i
-unfolding arityAt arityOf arities
-inner {t} {n} {i} kind h l e p q =
-    let m : 1 ≡ min (arityOf kind (aAt t i)) 1 = range-is (λ k. min (arityOf k (aAt t i)) 1) 1 7 8 tt kind p q in
-    h .child i l (rw e (omega arith))
-
--- the variable that a node names
-pub named : {t : List ℕ} {n i : ℕ} (kind : ℕ) → Known t n → i < n → kindAt t i ≡ kind → namesVariable kind ≡ true → bAt t i < 64
-named {t} {n} {i} kind h l e p = h .variable i l (rw e p)
-
--- what a call on a node below asks
-pub reach : {s : List ℕ} {n i j : ℕ} → ((12 * n ≤ length s) × (i < n)) × Known s n → j < i → ((12 * n ≤ length s) × (j < n)) × Known s n
-reach h l = ((h .0 .0, omega arith), h .1)
-
--- and a call of the same function
-pub descend : {s : List ℕ} {n i t j : ℕ} → (i ≡ t) × (((12 * n ≤ length s) × (i < n)) × Known s n) → j < i → (j < t) × (((12 * n ≤ length s) × (j < n)) × Known s n)
-descend h l = (omega arith, reach (h .1) l)
 
 module _ (t : List ℕ) (i : ℕ) {d : Set} {r : Flow} where
   pub follows-seq : {a : ℕ} {f g : Flow} → kindAt t i ≡ 7 → 0 < i → a ≡ i - 1 - sizeAt t (i - 1)

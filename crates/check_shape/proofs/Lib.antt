@@ -1,3 +1,2 @@
-pub mod Lowest
 pub mod Fields
 pub mod Sizes

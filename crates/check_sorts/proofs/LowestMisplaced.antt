@@ -18,7 +18,7 @@ use Rattle.records.specs.declared.Found.the-variants.{At, Nothing}
 use Rattle.records.proofs.Loops.{lowest-le, lowest-none}
 use Rattle.spec_language.specs.Sorts.{isExpression, wrongSort}
 use Rattle.spec_language.specs.Nodes.{wrongChild, some, misplaced}
-use Rattle.check_shape.proofs.Lowest.{lowest-or, lowest-one}
+use Rattle.records.proofs.Lowest.{lowest-or, lowest-one}
 
 -- one number more, which counts where it is wrong
 lower-one : (r : ℕ → Bool) (w : Bool) (n low c : ℕ) → c < n → min low (lowest (λ i. (eqb i c && w) || r i) n) ≡ min (pick w (min low c) low) (lowest r n)

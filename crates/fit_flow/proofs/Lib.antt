@@ -1,3 +1,3 @@
-mod Passing
-mod Trees
-mod Refs
+pub mod Passing
+pub mod Trees
+pub mod Refs

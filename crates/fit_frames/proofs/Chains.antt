@@ -4,8 +4,7 @@ use mathlib.Core.Bool.{Bool, true, false, _&&_}
 use mathlib.Core.List.{List}
 use Prim.Native.Nat.{ℕ, suc, _+_, _*_, _-_, _<_}
 use native.Mathlib.Omega.{arith}
-use Rattle.words.specs.Stacks.{entries}
-use Rattle.words.specs.Walks.{chain}
+use Rattle.words.specs.Stacks.{entries, chain}
 use Rattle.spec_machine.specs.Program.{Program}
 use Rattle.spec_image.specs.Decode.{frameOf}
 use Rattle.fit_frames.specs.Incoming.{Incoming, frameFits, handsOn, ends}

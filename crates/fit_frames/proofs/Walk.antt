@@ -5,7 +5,7 @@ use mathlib.Core.List.{List, [], _∷_, _++_, map}
 use Prim.Native.Nat.{ℕ}
 use Rattle.varset.specs.Sets.{Set, both}
 use Rattle.varset.specs.Lowest.{pick}
-use Rattle.words.specs.Walks.{chain}
+use Rattle.words.specs.Stacks.{chain}
 use lib.Dec.{eqb}
 use Rattle.spec_machine.specs.Values.{Ty, tBool, typeV}
 use Rattle.spec_language.specs.Flow.{leaves, returns}

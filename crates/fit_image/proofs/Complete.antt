@@ -8,8 +8,7 @@ use lib.ListN.{length, getD, take, drop, replicate, length-append, length-drop, 
 use lib.Seq.{drop-append-le, take-append-le, take-at}
 use borrow.Author.Tests.{le-leb}
 use Rattle.words.specs.Blocks.{allZero}
-use Rattle.words.specs.Stacks.{Wide}
-use Rattle.words.specs.Segments.{total}
+use Rattle.words.specs.Stacks.{Wide, total}
 use Rattle.words.proofs.Stacks.{every, drop-region}
 use Rattle.words.proofs.Entries.{region-zeros}
 use Rattle.words.proofs.Tests.{zeros-all}

@@ -9,7 +9,7 @@ use lib.ListN.{length, getD, take, drop, replicate, length-drop, take-append-dro
 use lib.Seq.{take-add, length-take-le}
 use borrow.Author.Tests.{eqb-true, leb-true}
 use Rattle.words.specs.Blocks.{allZero}
-use Rattle.words.specs.Segments.{total}
+use Rattle.words.specs.Stacks.{total}
 use Rattle.words.proofs.Tests.{both}
 use Rattle.spec_machine.specs.Machine.{Frame, Control}
 use Rattle.spec_machine.specs.Fit as fit

@@ -9,8 +9,7 @@ use lib.ListN.{length, getD, take, drop, replicate, length-append, length-drop, 
 use lib.Seq.{take-at, drop-at, drop-drop, length-take-le}
 use borrow.Author.Tests.{eqb-true, leb-true}
 use Rattle.words.specs.Blocks.{allZero}
-use Rattle.words.specs.Stacks.{region, entries, Every}
-use Rattle.words.specs.Segments.{total}
+use Rattle.words.specs.Stacks.{region, entries, Every, total}
 use Rattle.words.proofs.Tests.{both}
 use Rattle.words.proofs.Entries.{length-entries, region-sound}
 use Rattle.spec_machine.specs.Machine.{Exception, abort, emptyEnv, State, exception, main, returned}

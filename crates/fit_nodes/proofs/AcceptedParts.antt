@@ -9,7 +9,7 @@ use Rattle.records.specs.Parts.{Laid}
 use Rattle.records.proofs.PartWalks.{part-length}
 use Rattle.spec_language.specs.Known.{Known, CallsKnown}
 use Rattle.spec_language.proofs.Accept.{Accepted, accepted-is, parts, nodes-known, calls-known}
-use Rattle.check_flow.proofs.Walks.{inner}
+use Rattle.spec_language.proofs.KnownNodes.{inner}
 use Rattle.check_scopes.specs.Counts.{Named}
 use Rattle.fit_nodes.specs.Part.{Part}
 

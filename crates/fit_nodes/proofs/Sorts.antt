@@ -12,7 +12,7 @@ use Rattle.records.specs.Parts.{partOf}
 use Rattle.records.proofs.Bools.{by, and-left, and-right}
 use Rattle.spec_language.specs.Sorts.{isExpression}
 use Rattle.spec_language.specs.Types as types
-use Rattle.check_flow.proofs.Walks.{inner}
+use Rattle.spec_language.proofs.KnownNodes.{inner}
 use Rattle.spec_machine.specs.Program.{node, ifOf, seqOf, StmtForm, typeN, typeOfVar}
 use Rattle.spec_machine.specs.Fit.{isConst, isStmt, isNop}
 use Rattle.spec_machine.specs.File.{lookAt, formAt, ifForm, seqForm, seeAt, programOf}

@@ -3,4 +3,4 @@ pub mod StateWords
 pub mod Values
 pub mod Lists
 pub mod Rests
-mod Filling
+pub mod Filling

@@ -7,9 +7,8 @@ use native.Mathlib.Omega.{arith}
 use lib.Dec.{eqb}
 use lib.ListN.{getD, take, drop}
 use lib.Seq.{take-at, drop-at}
-use Rattle.words.specs.Stacks.{entries}
+use Rattle.words.specs.Stacks.{entries, chain}
 use Rattle.words.proofs.Entries.{length-entries, entries-append}
-use Rattle.words.specs.Walks.{chain}
 use Rattle.spec_machine.specs.Values.{Value}
 use Rattle.spec_machine.specs.Program.{Program, varTypes}
 use Rattle.spec_machine.specs.Machine.{Frame}

@@ -7,8 +7,7 @@ use lib.Dec.{eqb}
 use lib.ListN.{getD, take, drop}
 use borrow.Author.Tests.{lt-ltb}
 use Rattle.varset.specs.Lowest.{pick}
-use Rattle.words.specs.Stacks.{blockAt, entries, Every}
-use Rattle.words.specs.Segments.{total}
+use Rattle.words.specs.Stacks.{blockAt, entries, Every, total}
 use Rattle.words.proofs.Stacks.{every-drop}
 use Rattle.spec_machine.specs.Values.{nothing, int, truth}
 use Rattle.spec_machine.specs.Program.{Operation, op, fn}

@@ -5,7 +5,7 @@ use Prim.Native.Nat.{ℕ}
 use lib.Dec.{eqb}
 use lib.ListN.{take, drop}
 use Rattle.varset.specs.Sets.{Set}
-use Rattle.words.specs.Walks.{chain}
+use Rattle.words.specs.Stacks.{chain}
 use Rattle.spec_machine.specs.Values.{Ty}
 use Rattle.spec_machine.specs.Program.{Program, varTypes}
 use Rattle.spec_machine.specs.Machine.{Frame, Control}

@@ -1,9 +1,9 @@
 pub mod SetTables
 pub mod SummaryParts
 pub mod EmptyWord
-mod Fails
-mod Ranges
-mod Filling
+pub mod Fails
+pub mod Ranges
+pub mod Filling
 pub mod Arms
-mod Stored
+pub mod Stored
 pub mod Looking

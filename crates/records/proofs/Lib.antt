@@ -7,3 +7,4 @@ pub mod EntryTables
 pub mod Masks
 pub mod Children
 pub mod StartTables
+pub mod Lowest

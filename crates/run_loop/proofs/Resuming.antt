@@ -7,7 +7,7 @@ use native.Mathlib.Omega.{arith}
 use lib.ListN.{length, getD, length-append}
 use Rattle.records.specs.Fields.{functions, countOf}
 use Rattle.records.specs.Parts.{startOf}
-use Rattle.words.specs.Segments.{total}
+use Rattle.words.specs.Stacks.{total}
 use Rattle.spec_language.specs.Check.{accepted, checkOf}
 use Rattle.spec_machine.specs.Values.{Value}
 use Rattle.spec_machine.specs.Machine.{Frame, Control, Saved, emptyEnv, running}

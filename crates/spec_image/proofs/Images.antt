@@ -6,8 +6,7 @@ use native.Mathlib.Nat.{le-trans}
 use native.Mathlib.Omega.{arith}
 use lib.ListN.{length, getD, replicate, length-append, length-replicate, List·getD-append}
 use lib.Seq.{take-at, drop-at}
-use Rattle.words.specs.Stacks.{region, Wide, Back}
-use Rattle.words.specs.Segments.{total}
+use Rattle.words.specs.Stacks.{region, Wide, Back, total}
 use Rattle.words.proofs.Stacks.{every, length-region}
 use Rattle.words.proofs.Entries.{entries-region}
 use Rattle.spec_machine.specs.Values.{Value}

@@ -7,8 +7,7 @@ use Rattle.varset.specs.Lowest.{pick}
 use Rattle.spec_machine.specs.Values.{Value, nothing, int, truth}
 use Rattle.spec_machine.specs.Program.{Operation, op, fn, Ref, node, ifOf, seqOf}
 use Rattle.spec_machine.specs.Machine.{arith, abort, Frame, gather, and, wait, branch, check, Control, val, eval, exec, Saved, saved, emptyEnv, State, exception, main, returned, running}
-use Rattle.words.specs.Stacks.{entries}
-use Rattle.words.specs.Segments.{total}
+use Rattle.words.specs.Stacks.{entries, total}
 use Rattle.spec_image.specs.Layout.{Activation, activation}
 
 -- a value by its type and its word

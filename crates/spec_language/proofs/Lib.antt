@@ -13,3 +13,4 @@ pub mod Scoping
 pub mod LowestRead
 pub mod Refusals
 pub mod Verdicts
+pub mod KnownNodes

@@ -2,6 +2,4 @@ pub mod Blocks
 pub mod Tests
 pub mod Stacks
 pub mod Entries
-pub mod Walks
-pub mod Segments
 pub mod Samples

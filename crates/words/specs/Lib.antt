@@ -1,4 +1,2 @@
 pub mod Blocks
 pub mod Stacks
-pub mod Walks
-pub mod Segments

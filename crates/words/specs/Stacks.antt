@@ -1,5 +1,6 @@
 -- Stacks of entries as blocks of w words each, the bottom entry first; the top is the head of the list.
 use mathlib.Core.Path.{_≡_}
+use mathlib.Core.Bool.{Bool, _&&_}
 use mathlib.Core.List.{List, [], _∷_, _++_}
 use Prim.Native.Nat.{ℕ, zero, suc, _+_, _*_, _-_}
 use lib.ListN.{take, drop, length, replicate}
@@ -40,3 +41,15 @@ module _ {E : Type 0} (enc : E → List ℕ) (dec : List ℕ → E) where
   -- an entry is what its block is read as
   abbrev pub Back : E → Type 0
   Back f = dec (enc f) ≡ f
+
+module _ {E : Type 0} (count : E → ℕ) where
+  -- the counts of all entries together
+  abbrev pub total : List E → ℕ
+  total [] = 0
+  total (x ∷ xs) = count x + total xs
+
+module _ {E S : Type 0} (ok : S → E → Bool) (go : S → E → S) (end : S → Bool) where
+  -- from the top down: each entry is ok for what comes down to it, and hands on what it makes of that
+  abbrev pub chain : S → List E → Bool
+  chain s [] = end s
+  chain s (f ∷ K) = ok s f && chain (go s f) K

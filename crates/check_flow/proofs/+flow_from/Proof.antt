@@ -5,7 +5,8 @@ use lib.Dec.{lit<, lit≤}
 use borrow.Author.Needs.{needs}
 use Rattle.spec_language.specs.Scopes.{usesVariable}
 use Rattle.spec_language.specs.Known.{namesVariable}
-use Rattle.check_flow.proofs.Walks.{inner, named, reach, descend, from-twelve, follows-seq, follows-assign, follows-decl, follows-if, follows-while, follows-expression, follows-rest}
+use Rattle.spec_language.proofs.KnownNodes.{inner, named, reach, descend}
+use Rattle.check_flow.proofs.Walks.{from-twelve, follows-seq, follows-assign, follows-decl, follows-if, follows-while, follows-expression, follows-rest}
 use Prim.Native.Nat.{ℕ, _<_}
 use borrow.Fn.Kinds.{In}
 use borrow.Fn.PlainCycle.{Measures, is, falls, and}

@@ -6,7 +6,7 @@ use Rattle.spec_language.specs.Statements.{readsFrom, readsOf}
 use Rattle.spec_language.specs.Flow.{missing}
 use Rattle.spec_language.specs.Scopes.{usesVariable}
 use Rattle.spec_language.specs.Known.{namesVariable}
-use Rattle.check_flow.proofs.Walks.{named}
+use Rattle.spec_language.proofs.KnownNodes.{named}
 use Rattle.check_flow.proofs.Expressions.{rest-all, rest-found, rest-on, rest-none}
 use Rattle.check_flow.proofs.first_missing.Statement.{statement}
 use Rattle.check_flow.proofs.first_missing.Tie as tie

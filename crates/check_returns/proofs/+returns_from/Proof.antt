@@ -4,7 +4,7 @@ use lib.Dec.{lit<, lit≤}
 use borrow.Author.Needs.{needs}
 use Rattle.spec_language.specs.Statements.{prior, last}
 use Rattle.spec_language.proofs.Rules.{returns-return, returns-seq, returns-if, returns-decl, returns-rest}
-use Rattle.check_flow.proofs.Walks.{inner, descend}
+use Rattle.spec_language.proofs.KnownNodes.{inner, descend}
 use Prim.Native.Nat.{ℕ, _<_}
 use borrow.Fn.Kinds.{In}
 use borrow.Fn.PlainCycle.{Measures, is, falls, and}

@@ -2,8 +2,7 @@ use mathlib.Core.Path.{_≡_, refl, sym, _∙_}
 use Prim.Native.Nat.{_+_, _*_, _≤_}
 use native.Mathlib.Omega.{arith}
 use borrow.Author.Tests.{not-true, not-false}
-use Rattle.words.specs.Stacks.{entries}
-use Rattle.words.specs.Walks.{chain}
+use Rattle.words.specs.Stacks.{entries, chain}
 use Rattle.spec_machine.specs.File.{programOf}
 use Rattle.spec_image.specs.Decode.{frameOf}
 use Rattle.fit_frames.specs.Incoming.{frameFits, handsOn, ends}
