@@ -1,14 +1,12 @@
 -- What a walk shows at a node of each kind, from the walks over its children.
 use mathlib.Core.Path.{_≡_, sym, _∙_}
-use mathlib.Core.Bool.{true}
 use mathlib.Core.List.{List}
 use mathlib.Core.Logic.{_⊎_, inl, inr}
-use Prim.Native.Nat.{ℕ, _*_, _-_, _≤_, _<_, min}
+use Prim.Native.Nat.{ℕ, _*_, _-_, _≤_, _<_}
 use native.Mathlib.Omega.{arith}
-use lib.ListN.{length}
 use Rattle.varset.specs.Sets.{Set, has, none, with, without}
 use Rattle.varset.specs.declared.VarSet.{VarSet}
-use Rattle.records.specs.Fields.{kindAt, aAt, bAt, sizeAt}
+use Rattle.records.specs.Fields.{kindAt, bAt, sizeAt}
 use Rattle.records.specs.declared.Found.{Found}
 use Rattle.records.specs.declared.Found.the-variants.{At, Nothing}
 use Rattle.spec_language.specs.Statements.{Read, Statement, Seq, Decl, If, While, prior, last, readsOf, statementAt}

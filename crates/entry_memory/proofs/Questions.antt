@@ -15,7 +15,8 @@ use Rattle.spec_machine.specs.Run.{lookUp}
 use Rattle.spec_machine.specs.File.{programOf}
 use Rattle.spec_image.specs.Image.{image}
 use Rattle.spec_image.specs.Decode.{stateOf}
-use Rattle.spec_image.specs.Memory.{size, Holds, fitWords}
+use Rattle.spec_image.specs.Sizes.{size}
+use Rattle.spec_image.specs.Memory.{Holds, fitWords}
 use Rattle.spec_image.specs.Narrow.{Narrow}
 use Rattle.spec_image.proofs.Sized.{file-sized, fit-narrow}
 use Rattle.spec_image.proofs.Memory.{held-whole, holds-fit}

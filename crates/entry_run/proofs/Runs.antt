@@ -11,7 +11,7 @@ use Rattle.spec_machine.specs.Fit.{Fit}
 use Rattle.spec_machine.specs.File.{programOf}
 use Rattle.spec_image.specs.Image.{image}
 use Rattle.spec_image.specs.Decode.{stateOf}
-use Rattle.spec_image.specs.Memory.{size}
+use Rattle.spec_image.specs.Sizes.{size}
 use Rattle.spec_image.proofs.Memory.{held-whole, holds-fit}
 use Rattle.spec_answers.specs.Answers.{memoryAnswer, byVerdict, written, runFrom, runAnswer, runMemory}
 use Rattle.spec_answers.proofs.Questions.{memory-so}

@@ -12,7 +12,7 @@ use Rattle.spec_language.specs.Check.{accepted, refused, questions, refuse, fir
 use Rattle.spec_machine.specs.Machine.{main, emptyEnv}
 use Rattle.spec_image.specs.Layout.{filled}
 use Rattle.spec_image.specs.Image.{headWords, activationsOf, framesOf, image}
-use Rattle.spec_image.specs.Memory.{size}
+use Rattle.spec_image.specs.Sizes.{size}
 use Rattle.spec_answers.specs.Answers.{roomFor, startAnswer, written, startMemory}
 use Rattle.spec_answers.proofs.Questions.{put-after, put-early}
 

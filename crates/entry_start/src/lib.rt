@@ -3,7 +3,7 @@ use check_file::Answer;
 ghost use mathlib.Core.Path.{_≡_};
 ghost use Rattle.check_file.specs.Answers.{says, Small};
 ghost use Rattle.spec_image.specs.Image.{image};
-ghost use Rattle.spec_image.specs.Memory.{size};
+ghost use Rattle.spec_image.specs.Sizes.{size};
 ghost use Rattle.spec_machine.specs.Machine.{main, emptyEnv};
 ghost use lib.ListN.{drop, length};
 ghost use mathlib.Core.List.{_++_};

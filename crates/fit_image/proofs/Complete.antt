@@ -18,7 +18,8 @@ use Rattle.spec_machine.specs.Fit.{WithinLimits, callerLimit, frameLimit}
 use Rattle.spec_image.specs.Layout.{filled, frameWords, controlWords, activationWords}
 use Rattle.spec_image.specs.Image.{headWords, activationsOf, framesOf, image}
 use Rattle.spec_image.specs.Decode.{framesHeld, heldIn, activationsIn}
-use Rattle.spec_image.specs.Memory.{size, Holds}
+use Rattle.spec_image.specs.Sizes.{size}
+use Rattle.spec_image.specs.Memory.{Holds}
 use Rattle.spec_image.specs.Narrow.{NarrowFrame, NarrowActivation, Narrow}
 use Rattle.spec_image.proofs.BlockLengths.{length-filled, frame-wide, activation-wide, every-so}
 use Rattle.spec_image.proofs.Images.{length-frames, few-frames, frames-held, activationRoom, frameRoom, length-activations, image-parts, head-word, count-in, activations-in}

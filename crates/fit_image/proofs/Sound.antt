@@ -17,7 +17,8 @@ use Rattle.spec_machine.specs.Fit.{WithinLimits, callerLimit, frameLimit}
 use Rattle.spec_image.specs.Layout.{filled, frameWords, activationWords}
 use Rattle.spec_image.specs.Image.{headWords, activationsOf, framesOf, image}
 use Rattle.spec_image.specs.Decode.{frameOf, controlOf, activationOf, framesHeld, heldIn, runningOf, activationsIn, framesIn, states, stateOf}
-use Rattle.spec_image.specs.Memory.{size, Holds}
+use Rattle.spec_image.specs.Sizes.{size}
+use Rattle.spec_image.specs.Memory.{Holds}
 use Rattle.spec_image.specs.Narrow.{NarrowFrame, NarrowActivation, Narrow}
 use Rattle.spec_image.proofs.Rooms.{rooms}
 use Rattle.fit_image.specs.BlockTests.{controlOk, frameOk, activationOk}

@@ -12,7 +12,8 @@ use Rattle.spec_language.specs.Check.{accepted, refused, Asked, ask, questions,
 use Rattle.spec_machine.specs.Run.{lookUp}
 use Rattle.spec_machine.specs.File.{programOf}
 use Rattle.spec_image.specs.Decode.{stateOf}
-use Rattle.spec_image.specs.Memory.{size, fitWords}
+use Rattle.spec_image.specs.Sizes.{size}
+use Rattle.spec_image.specs.Memory.{fitWords}
 use Rattle.spec_answers.specs.Answers.{isPresent, roomFor, imageIn, variableIn, startAnswer, memoryAnswer, lookVerdict}
 
 -- no refusal is an acceptance

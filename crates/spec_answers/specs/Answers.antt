@@ -13,7 +13,8 @@ use Rattle.spec_machine.specs.Run.{Ran, runOf, lookUp}
 use Rattle.spec_machine.specs.File.{programOf}
 use Rattle.spec_image.specs.Image.{image}
 use Rattle.spec_image.specs.Decode.{stateOf}
-use Rattle.spec_image.specs.Memory.{size, fitWords}
+use Rattle.spec_image.specs.Sizes.{size}
+use Rattle.spec_image.specs.Memory.{fitWords}
 
 -- 15: has the memory at least 16,384 words of 32 bits?
 unfoldable pub roomFor : List ℕ → Asked

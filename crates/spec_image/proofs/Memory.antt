@@ -16,7 +16,8 @@ use Rattle.spec_machine.proofs.Says.{Says}
 use Rattle.spec_machine.proofs.Tests.{fit-says}
 use Rattle.spec_image.specs.Image.{image}
 use Rattle.spec_image.specs.Decode.{stateOf}
-use Rattle.spec_image.specs.Memory.{size, Holds, fitWords}
+use Rattle.spec_image.specs.Sizes.{size}
+use Rattle.spec_image.specs.Memory.{Holds, fitWords}
 use Rattle.spec_image.proofs.BlockLengths.{zeros-at}
 use Rattle.spec_image.specs.Narrow.{Narrow}
 use Rattle.spec_image.proofs.Images.{image-length, decode-image, image-inj, marked}

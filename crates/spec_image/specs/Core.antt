@@ -5,11 +5,12 @@ use lib.ListN.{replicate}
 use Rattle.words.specs.Stacks.{region}
 use Rattle.spec_machine.specs.Values.{Value}
 use Rattle.spec_machine.specs.Machine.{Frame, Saved}
+use Rattle.spec_image.specs.Sizes.{headSize, activationSize, callerRoom, frameSize, frameRoom, spareSize}
 use Rattle.spec_image.specs.Layout.{frameWords, activation, activationWords}
 use Rattle.spec_image.specs.Image.{savedActivations, savedFrames}
 
 -- of function f with the variables η and the frames K, over the saved callers A
 unfoldable pub core : ℕ → List Value → List Frame → List Saved → List ℕ
 core f η K A =
-    replicate 128 0
-    ++ (region 136 activationWords 32 (activation f 0 η ∷ savedActivations A) ++ (region 20 frameWords 512 (K ++ savedFrames A) ++ replicate 1664 0))
+    replicate headSize 0
+    ++ (region activationSize activationWords callerRoom (activation f 0 η ∷ savedActivations A) ++ (region frameSize frameWords frameRoom (K ++ savedFrames A) ++ replicate spareSize 0))

@@ -8,6 +8,7 @@ use Rattle.spec_machine.specs.Values.{Value, nothing, int, truth}
 use Rattle.spec_machine.specs.Program.{Operation, op, fn, Ref, node, ifOf, seqOf}
 use Rattle.spec_machine.specs.Machine.{arith, abort, Frame, gather, and, wait, branch, check, Control, val, eval, exec, Saved, saved, emptyEnv, State, exception, main, returned, running}
 use Rattle.words.specs.Stacks.{entries, total}
+use Rattle.spec_image.specs.Sizes.{activationSize, frameSize, activationsAt, framesAt, slotsFrom, variablesFrom}
 use Rattle.spec_image.specs.Layout.{Activation, activation}
 
 -- a value by its type and its word
@@ -38,9 +39,9 @@ unfoldable pub frames : ℕ → ℕ → ℕ → List ℕ → List Frame
 frames x y z slots =
     Frame.discard ∷ operands (op x) y z slots ∷ operands (fn x) y z slots ∷ and x ∷ wait (refOf x) ∷ Frame.store x ∷ branch (refOf x) (refOf y) ∷ Frame.leave ∷ check ∷ []
 
--- a frame by its 20 words
+-- a frame by its words
 unfoldable pub frameOf : List ℕ → Frame
-frameOf l = getD (frames (getD l 1 0) (getD l 2 0) (getD l 3 0) (drop 4 l)) (getD l 0 0) Frame.discard
+frameOf l = getD (frames (getD l 1 0) (getD l 2 0) (getD l 3 0) (drop slotsFrom l)) (getD l 0 0) Frame.discard
 
 -- a control by its form and its word
 unfoldable pub controlOf : ℕ → ℕ → Control
@@ -51,9 +52,9 @@ controlOf form word =
     (pick (eqb form 4) (eval word)
     (exec (refOf word)))))
 
--- an activation by its 136 words
+-- an activation by its words
 unfoldable pub activationOf : List ℕ → Activation
-activationOf l = activation (getD l 0 0) (getD l 1 0) (valuesOf (getD l 2 0) (drop 8 l))
+activationOf l = activation (getD l 0 0) (getD l 1 0) (valuesOf (getD l 2 0) (drop variablesFrom l))
 
 -- how many frames an activation has
 unfoldable pub framesHeld : Activation → ℕ
@@ -71,7 +72,7 @@ runningOf c (activation f k η ∷ rest) K = running c emptyEnv f η (take k K) 
 
 -- the first n activations of an image, the last first, and how many frames they have together
 abbrev pub activationsTo : List ℕ → ℕ → List Activation
-activationsTo m n = entries 136 activationOf m 128 n
+activationsTo m n = entries activationSize activationOf m activationsAt n
 
 abbrev pub heldIn : List ℕ → ℕ → ℕ
 heldIn m n = total framesHeld (activationsTo m n)
@@ -81,7 +82,7 @@ unfoldable pub activationsIn : List ℕ → List Activation
 activationsIn m = activationsTo m (getD m 2 0)
 
 unfoldable pub framesIn : List ℕ → List Frame
-framesIn m = entries 20 frameOf m 4480 (total framesHeld (activationsIn m))
+framesIn m = entries frameSize frameOf m framesAt (total framesHeld (activationsIn m))
 
 -- the states of tags 1 to 6
 unfoldable pub states : List ℕ → List State

@@ -1,9 +1,10 @@
--- The image of a state, and the state of an image.
+-- The image of a state.
 use mathlib.Core.List.{List, [], _∷_, _++_}
 use Prim.Native.Nat.{ℕ, suc, _+_}
 use lib.ListN.{length, replicate}
 use Rattle.words.specs.Stacks.{region}
 use Rattle.spec_machine.specs.Machine.{arith, abort, Frame, Saved, saved, State, exception, main, returned, running}
+use Rattle.spec_image.specs.Sizes.{headSize, activationSize, callerRoom, frameSize, frameRoom, spareSize}
 use Rattle.spec_image.specs.Layout.{filled, frameWords, controlWords, Activation, activation, activationWords}
 
 -- the activations, the current one first
@@ -40,6 +41,8 @@ framesOf (main α) = []
 framesOf (returned α c) = []
 framesOf (running c α f η K A) = K ++ savedFrames A
 
--- 128 words of head, room for 32 activations of 136 words, room for 512 frames of 20 words, and zeros: 16,384 words
+-- the head, the activations, the frames, each in its room, and zeros: 16,384 words
 unfoldable pub image : State → List ℕ
-image s = filled 128 (headWords s) ++ (region 136 activationWords 32 (activationsOf s) ++ (region 20 frameWords 512 (framesOf s) ++ replicate 1664 0))
+image s =
+    filled headSize (headWords s)
+    ++ (region activationSize activationWords callerRoom (activationsOf s) ++ (region frameSize frameWords frameRoom (framesOf s) ++ replicate spareSize 0))

@@ -6,6 +6,7 @@ use lib.ListN.{take, replicate, length}
 use Rattle.spec_machine.specs.Values.{Value, nothing, int, truth}
 use Rattle.spec_machine.specs.Program.{Operation, op, fn, Ref, node, ifOf, seqOf}
 use Rattle.spec_machine.specs.Machine.{Frame, gather, and, wait, branch, check, Control, val, eval, exec}
+use Rattle.spec_image.specs.Sizes.{activationSize, frameSize}
 
 -- a list of words brought to w words, with zeros after it
 unfoldable pub filled : ℕ → List ℕ → List ℕ
@@ -37,9 +38,9 @@ refWord (node n) = 1 + 3 * n
 refWord (ifOf n) = 2 + 3 * n
 refWord (seqOf n) = 3 + 3 * n
 
--- a frame of 20 words: its kind, three words, and up to seven values and nodes
+-- a frame: its kind, three words, and up to seven values and nodes
 unfoldable pub block : ℕ → ℕ → ℕ → ℕ → List ℕ → List ℕ
-block kind x y z slots = filled 20 (kind ∷ x ∷ y ∷ z ∷ slots)
+block kind x y z slots = filled frameSize (kind ∷ x ∷ y ∷ z ∷ slots)
 
 unfoldable pub gathering : Operation → List Value → List ℕ → List ℕ
 gathering (op o) vs ns = block 1 o (length vs) (length ns) (valuesWords vs ++ nodesWords ns)
@@ -67,6 +68,6 @@ controlWords (exec r) = 5 ∷ refWord r ∷ []
 pub data Activation : Type 0 where
   activation : ℕ → ℕ → List Value → Activation
 
--- an activation of 136 words: function, frame count, variable count, five zeros, and up to 64 variables of two words
+-- an activation: function, frame count, variable count, five zeros, and up to 64 variables of two words
 unfoldable pub activationWords : Activation → List ℕ
-activationWords (activation f k η) = filled 136 (f ∷ k ∷ length η ∷ 0 ∷ 0 ∷ 0 ∷ 0 ∷ 0 ∷ valuesWords η)
+activationWords (activation f k η) = filled activationSize (f ∷ k ∷ length η ∷ 0 ∷ 0 ∷ 0 ∷ 0 ∷ 0 ∷ valuesWords η)

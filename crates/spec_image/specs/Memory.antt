@@ -8,12 +8,9 @@ use Rattle.words.specs.Blocks.{eqWords}
 use Rattle.spec_machine.specs.Program.{Program}
 use Rattle.spec_machine.specs.Machine.{State}
 use Rattle.spec_machine.specs.Test.{fit}
+use Rattle.spec_image.specs.Sizes.{size}
 use Rattle.spec_image.specs.Image.{image}
 use Rattle.spec_image.specs.Decode.{stateOf}
-
--- the size of an image
-abbrev pub size : ℕ
-size = 16384
 
 -- the memory holds the image of the state
 abbrev pub Holds : List ℕ → State → Type 0

@@ -3,11 +3,12 @@ use Prim.Native.Nat.{_+_, _≤_}
 use lib.ListN.{length}
 use Rattle.words.specs.Stacks.{Every}
 use Rattle.spec_machine.specs.Machine.{Frame, gather, and, wait, branch, check, State}
+use Rattle.spec_image.specs.Sizes.{slotRoom, variableRoom}
 use Rattle.spec_image.specs.Layout.{Activation, activation}
 use Rattle.spec_image.specs.Image.{activationsOf, framesOf}
 
 abbrev pub NarrowFrame : Frame → Type 0
-NarrowFrame (gather h vs ns) = length vs + length ns ≤ 7
+NarrowFrame (gather h vs ns) = length vs + length ns ≤ slotRoom
 NarrowFrame (and n) = Unit {0}
 NarrowFrame (wait r) = Unit {0}
 NarrowFrame (Frame.store x) = Unit {0}
@@ -17,7 +18,7 @@ NarrowFrame check = Unit {0}
 NarrowFrame Frame.discard = Unit {0}
 
 abbrev pub NarrowActivation : Activation → Type 0
-NarrowActivation (activation f k η) = length η ≤ 64
+NarrowActivation (activation f k η) = length η ≤ variableRoom
 
 -- every frame and every activation of the state
 pub record Narrow (s : State) : Type 0 where

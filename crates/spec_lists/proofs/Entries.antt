@@ -20,7 +20,7 @@ use Rattle.spec_machine.proofs.Runs.{Good, ran}
 use Rattle.spec_machine.proofs.Safety.{starts-fit}
 use Rattle.spec_image.specs.Image.{image}
 use Rattle.spec_image.specs.Decode.{stateOf}
-use Rattle.spec_image.specs.Memory.{size}
+use Rattle.spec_image.specs.Sizes.{size}
 use Rattle.spec_image.proofs.Images.{image-length}
 use Rattle.spec_image.proofs.Sized.{file-sized, fit-narrow}
 use Rattle.spec_image.proofs.Memory.{held-length, held-state, whole-held}

@@ -13,7 +13,8 @@ use Rattle.spec_machine.specs.Calls.{Machine}
 use Rattle.spec_machine.proofs.Calls.{whole}
 use Rattle.spec_machine.proofs.Safety.{starts-fit, one-applies, values-typed}
 use Rattle.spec_image.specs.Image.{image}
-use Rattle.spec_image.specs.Memory.{size, Holds}
+use Rattle.spec_image.specs.Sizes.{size}
+use Rattle.spec_image.specs.Memory.{Holds}
 use Rattle.spec_image.proofs.Sized.{file-sized}
 use Rattle.spec_image.proofs.Memory.{held-length, whole-held, holds-fit, fit-holds, one-state}
 use Rattle.spec_answers.specs.Answers.{startMemory, written}

@@ -12,7 +12,8 @@ use Rattle.spec_machine.specs.Applies.{One}
 use Rattle.spec_machine.specs.Typed.{Typed}
 use Rattle.spec_machine.specs.Calls.{Machine, Call, OneFile, Story}
 use Rattle.spec_image.specs.Decode.{stateOf}
-use Rattle.spec_image.specs.Memory.{size, Holds}
+use Rattle.spec_image.specs.Sizes.{size}
+use Rattle.spec_image.specs.Memory.{Holds}
 use Rattle.spec_answers.specs.Answers.{startAnswer, memoryAnswer, startMemory}
 use Rattle.spec_lists.specs.Forms.{Given, CallKind, form}
 
