@@ -1,4 +1,5 @@
 // The records of a procedure file: numbers in bytes, fields, and where a node's children stand.
+pub mod format;
 pub mod nodes;
 pub mod starts;
 

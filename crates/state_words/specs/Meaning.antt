@@ -9,6 +9,7 @@ use Rattle.state_words.specs.declared.Ref.{Ref}
 use Rattle.state_words.specs.declared.Ref.the-variants.{Nop, Node, IfOf, SeqOf}
 use Rattle.state_words.specs.declared.Control.{Control}
 use Rattle.state_words.specs.declared.Control.the-variants as control
+use Rattle.spec_image.specs.Sizes.{activationSize, frameSize, activationsAt, framesAt, slotsFrom, variablesFrom}
 use Rattle.spec_image.specs.Decode.{refOf}
 
 -- a value
@@ -34,16 +35,16 @@ controlIs (control.Exec w) = machine.exec (refOf w)
 
 -- the place of the frame with n frames under it
 unfoldable pub frameAt : ℕ → ℕ
-frameAt n = 4480 + n * 20
+frameAt n = framesAt + n * frameSize
 
 -- the place of its slot k
 unfoldable pub slotAt : ℕ → ℕ → ℕ
-slotAt n k = 4480 + n * 20 + (4 + k * 2)
+slotAt n k = framesAt + n * frameSize + (slotsFrom + k * 2)
 
 -- the place of the activation with n activations under it
 unfoldable pub activationAt : ℕ → ℕ
-activationAt n = 128 + n * 136
+activationAt n = activationsAt + n * activationSize
 
 -- the place of its variable x
 unfoldable pub variableAt : ℕ → ℕ → ℕ
-variableAt n x = 128 + n * 136 + (8 + x * 2)
+variableAt n x = activationsAt + n * activationSize + (variablesFrom + x * 2)

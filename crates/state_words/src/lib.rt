@@ -1,6 +1,7 @@
 // The machine's words: values, references, controls, frames and activations in lent memory.
 pub mod activations;
 pub mod frames;
+pub mod layout;
 
 ghost use mathlib.Core.Path.{_≡_};
 ghost use mathlib.Core.List.{[], _∷_};
