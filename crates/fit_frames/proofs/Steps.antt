@@ -12,7 +12,7 @@ use Rattle.spec_machine.specs.Program.{Operation, Ref, Program, typeN, typeOfVa
 use Rattle.spec_machine.specs.Machine.{Frame, gather, and, wait, branch, check}
 use Rattle.spec_machine.specs.File.{typesFrom}
 use Rattle.spec_machine.specs.Test.{areTy, reads, ok, exprIn, stmtIn, exprsIn, hasVar, knownOperation, readsNodes}
-use Rattle.fit_frames.specs.declared.Incoming.{Incoming}
+use Rattle.fit_frames.specs.declared.Received.{Received}
 use Rattle.fit_frames.specs.declared.Next.{Next}
 use Rattle.fit_frames.specs.Incoming.{incoming, frameFits}
 use Rattle.fit_frames.specs.Operands.{nodeSuits, gathered}
@@ -25,7 +25,7 @@ eqb-swap a b = go (eqb a b) refl
     go true e = e ∙ sym (eq-eqb b a (sym (eqb-true a b e)))
     go false e = e ∙ sym (ne-eqb b a (λ q. eqb-false a b e (sym q)))
 
-module _ {P : Program} {f : ℕ} {d : Incoming} {r : Next} where
+module _ {P : Program} {f : ℕ} {d : Received} {r : Next} where
   -- a frame that does not suit
   pub refuse : {fr : Frame} → r .ok ≡ false → frameFits P f (incomingIs d) fr ≡ false → Steps P f d fr r
   refuse e q = record { ok = e ∙ sym q; on = λ t. absurd (false≢true (sym e ∙ t)) }

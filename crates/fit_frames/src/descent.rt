@@ -1,6 +1,6 @@
 // The walk down an activation's frames, from what stands over them.
-use crate::Incoming;
 use crate::Next;
+use crate::Received;
 use crate::bare;
 use crate::frame_step;
 use crate::giving;
@@ -55,7 +55,7 @@ pub fn frames_fit(
     m: &[u32],
     low: usize,
     k: usize,
-    d: Incoming,
+    d: Received,
 ) -> bool
     requires part { ⌜ Part (now file) f (now part) n × Decls (now part) n (now decls) × TableSays (now part) n (now table) ⌝ }
     requires room { ⌜ (16384 ≤ length (now m)) × (low + k ≤ 512) ⌝ }

@@ -31,7 +31,7 @@ ghost use Rattle.fit_frames.specs.Incoming.{incoming};
 ghost use Rattle.fit_frames.specs.Meaning.{incomingIs, Steps, frameIn};
 
 // What comes down to a frame: whether a value is given, its type, the variables that have a value, whether something that returns has come.
-pub struct Incoming {
+pub struct Received {
     pub some: bool,
     pub kind: u8,
     pub set: VarSet,
@@ -41,21 +41,21 @@ pub struct Incoming {
 // Whether a frame suits what comes down to it, and what it hands on where it does.
 pub struct Next {
     pub ok: bool,
-    pub down: Incoming,
+    pub down: Received,
 }
 
 // The answer of a frame that does not suit.
-fn refused(d: Incoming) -> Next
+fn refused(d: Received) -> Next
     ensures { λ r. ⌜ r .ok ≡ false ⌝ }
 {
     Next { ok: false, down: d }
 }
 
 // A value of a type handed on.
-pub fn giving(set: VarSet, come: bool, kind: u8) -> Incoming
+pub fn giving(set: VarSet, come: bool, kind: u8) -> Received
     ensures { λ r. ⌜ incomingIs r ≡ incoming true kind (has (set .0)) come ⌝ }
 {
-    Incoming {
+    Received {
         some: true,
         kind,
         set,
@@ -64,10 +64,10 @@ pub fn giving(set: VarSet, come: bool, kind: u8) -> Incoming
 }
 
 // No value handed on.
-pub fn bare(set: VarSet, come: bool) -> Incoming
+pub fn bare(set: VarSet, come: bool) -> Received
     ensures { λ r. ⌜ incomingIs r ≡ incoming false 0 (has (set .0)) come ⌝ }
 {
-    Incoming {
+    Received {
         some: false,
         kind: 0,
         set,
@@ -85,7 +85,7 @@ fn operator_step(
     table: &[u64],
     m: &[u32],
     i: usize,
-    d: Incoming,
+    d: Received,
 ) -> Next
     requires part { ⌜ Part (now file) f (now part) n × Decls (now part) n (now decls) × TableSays (now part) n (now table) ⌝ }
     requires room { ⌜ (16384 ≤ length (now m)) × (i < 512) ⌝ }
@@ -114,7 +114,7 @@ fn call_step(
     table: &[u64],
     m: &[u32],
     i: usize,
-    d: Incoming,
+    d: Received,
 ) -> Next
     requires part { ⌜ Part (now file) f (now part) n × Decls (now part) n (now decls) × TableSays (now part) n (now table) ⌝ }
     requires room { ⌜ (16384 ≤ length (now m)) × (i < 512) ⌝ }
@@ -156,7 +156,7 @@ fn and_step(
     decls: &[usize; 64],
     table: &[u64],
     x: u32,
-    d: Incoming,
+    d: Received,
 ) -> Next
     requires { ⌜ Part (now file) f (now part) n × Decls (now part) n (now decls) × TableSays (now part) n (now table) ⌝ }
     ensures { λ r. ⌜ Steps (programOf (now (file .entry))) f d (and x) r ⌝ }
@@ -174,7 +174,7 @@ fn and_step(
 }
 
 // What comes down, taken.
-fn taken(d: Incoming) -> Incoming
+fn taken(d: Received) -> Received
     ensures { λ r. ⌜ incomingIs r ≡ incoming false 0 (has (d .set .0)) (d .come) ⌝ }
 {
     let set = d.set;
@@ -191,7 +191,7 @@ pub fn frame_step(
     table: &[u64],
     m: &[u32],
     i: usize,
-    d: Incoming,
+    d: Received,
 ) -> Next
     requires part { ⌜ Part (now file) f (now part) n × Decls (now part) n (now decls) × TableSays (now part) n (now table) ⌝ }
     requires room { ⌜ (16384 ≤ length (now m)) × (i < 512) ⌝ }

@@ -1,6 +1,6 @@
 // Frames that a statement leaves: one that waits, an assignment, the branches of an if, and a return.
-use crate::Incoming;
 use crate::Next;
+use crate::Received;
 use crate::bare;
 use crate::refused;
 use fit_flow::returning;
@@ -34,7 +34,7 @@ pub fn wait_step(
     n: usize,
     table: &[u64],
     x: u32,
-    d: Incoming,
+    d: Received,
 ) -> Next
     requires { ⌜ Part (now file) f (now part) n × TableSays (now part) n (now table) ⌝ }
     ensures { λ r. ⌜ Steps (programOf (now (file .entry))) f d (wait (refOf x)) r ⌝ }
@@ -62,7 +62,7 @@ pub fn store_step(
     n: usize,
     decls: &[usize; 64],
     x: u32,
-    d: Incoming,
+    d: Received,
 ) -> Next
     requires { ⌜ Part (now file) f (now part) n × Decls (now part) n (now decls) ⌝ }
     ensures { λ r. ⌜ Steps (programOf (now (file .entry))) f d (Frame.store x) r ⌝ }
@@ -88,7 +88,7 @@ pub fn branch_step(
     table: &[u64],
     x: u32,
     y: u32,
-    d: Incoming,
+    d: Received,
 ) -> Next
     requires { ⌜ Part (now file) f (now part) n × TableSays (now part) n (now table) ⌝ }
     ensures { λ r. ⌜ Steps (programOf (now (file .entry))) f d (branch (refOf x) (refOf y)) r ⌝ }
@@ -119,7 +119,7 @@ fn branches(
     table: &[u64],
     r: Ref,
     q: Ref,
-    d: Incoming,
+    d: Received,
 ) -> Next
     requires part { ⌜ Part (now file) f (now part) n × TableSays (now part) n (now table) ⌝ }
     requires statements { ⌜ (stmtIn (programOf (now file)) f (refIs r) ≡ true) × (stmtIn (programOf (now file)) f (refIs q) ≡ true) ⌝ }
@@ -141,7 +141,7 @@ fn branches(
 }
 
 // A return's value.
-pub fn leave_step(file: &[u8], f: usize, d: Incoming) -> Next
+pub fn leave_step(file: &[u8], f: usize, d: Received) -> Next
     requires { ⌜ 12 * (1 + f) + 12 ≤ length (now file) ⌝ }
     ensures { λ r. ⌜ Steps (programOf (now (file .entry))) f d Frame.leave r ⌝ }
 {

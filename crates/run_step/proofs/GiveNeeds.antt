@@ -31,7 +31,7 @@ use Rattle.run_step.proofs.Sorts.{is-int, is-truth}
 use Rattle.run_step.proofs.GiveShapes.{ints, arguments, waits, conjunct, assigned, main-int, caller-known}
 
 -- a fit state with a value at hand has a top frame
-pub record Over (s table : List ℕ) (v : values.Value) (h : code.Head) (l : List ℕ) : Type 0 where
+pub record Over (s table : List ℕ) (v : values.Value) (h : code.Registers) (l : List ℕ) : Type 0 where
   pub passed : checkOf s ≡ accepted
   pub starts : Starts s table
   pub variables : List values.Value
@@ -43,7 +43,7 @@ pub record Over (s table : List ℕ) (v : values.Value) (h : code.Head) (l : Lis
   pub tells : Describes s h (h .function) (top ∷ frames) callers
   pub fit : fit.Fit (programOf s) (running (val v) emptyEnv (h .function) variables (top ∷ frames) callers)
 
-pub over : (s table : List ℕ) (v : values.Value) (h : code.Head) (l : List ℕ) → AtFitState s table (val v) h l → Over s table v h l
+pub over : (s table : List ℕ) (v : values.Value) (h : code.Registers) (l : List ℕ) → AtFitState s table (val v) h l → Over s table v h l
 over s table v h l st = go (st .frames) (st .held) (st .tells) (st .fit)
   where
     go : (K : List Frame) → l ≡ core (h .function) (st .variables) K (st .callers) ++ st .rest → Describes s h (h .function) K (st .callers)
@@ -64,7 +64,7 @@ over s table v h l st = go (st .frames) (st .held) (st .tells) (st .fit)
         }
 
 -- the limits of a fit state
-pub limited : {s : List ℕ} {c : _} {h : code.Head} {f : ℕ} {η : List values.Value} {K : List Frame} {A : List Saved} → Describes s h f K A
+pub limited : {s : List ℕ} {c : _} {h : code.Registers} {f : ℕ} {η : List values.Value} {K : List Frame} {A : List Saved} → Describes s h f K A
     → fit.Fit (programOf s) (running c emptyEnv f η K A) → (h .callers < 32) × (h .under + h .frames ≤ 512)
 limited {K} {A} t f = (omega (arith, t .callers, f .within .0), omega (arith, t .under, t .frames, f .within .1, length-frames A))
 
@@ -75,7 +75,7 @@ pub empty : (l : List ℕ) (z : ℕ) → z ≡ length l → z ≡ 0 → l ≡ []
 empty [] z e h = refl
 empty (x ∷ l) z e h = absurd (omega arith)
 
-module _ (s table : List ℕ) (v : Value) (h : code.Head) (l : List ℕ) (x : Over s table (valueIs v) h l) where
+module _ (s table : List ℕ) (v : Value) (h : code.Registers) (l : List ℕ) (x : Over s table (valueIs v) h l) where
   pub framed : 1 ≤ h .frames
   framed = omega (arith, x .tells .frames)
 

@@ -29,7 +29,7 @@ gives-operator : (s : List ℕ) (r : Stepped) (l m R : List ℕ) (f : ℕ) (η :
 unfolding programOf
 gives-operator s r l m R f η fr K A v o a b w i d = rw (w, i) d
 
-module _ (s : List ℕ) (r : Stepped) (h : code.Head) (l m R : List ℕ) (f : ℕ) (η : List Value) (fr : Frame) (K : List Frame) (A : List Saved) (v : Value)
+module _ (s : List ℕ) (r : Stepped) (h : code.Registers) (l m R : List ℕ) (f : ℕ) (η : List Value) (fr : Frame) (K : List Frame) (A : List Saved) (v : Value)
     (passed : checkOf s ≡ accepted) (held : l ≡ core f η (fr ∷ K) A ++ R) (tells : Describes s h f (fr ∷ K) A)
     (fit : Fit (programOf s) (running (val v) emptyEnv f η (fr ∷ K) A)) where
   -- it is done for a given frame
