@@ -14,7 +14,9 @@ use state_words::layout::FORM_INT;
 use state_words::layout::FORM_NOTHING;
 use state_words::layout::TAG_ABORT;
 use state_words::layout::TAG_ARITH;
+use state_words::layout::TAG_MAIN;
 use state_words::layout::TAG_RETURNED;
+use state_words::layout::TAG_RUNNING;
 use state_words::layout::TAG_VALUE;
 ghost use mathlib.Core.Path.{_≡_};
 ghost use mathlib.Core.List.{List, _++_};
@@ -221,14 +223,14 @@ pub fn run(file: &[u8], m: &mut [u32], allowed: u64) -> Ran
     let tag = m[0];
     let word = m[1];
     match tag {
-        1 => begin(file, m, allowed),
-        2 => proceed(file, m, allowed),
-        3 => conclude(m, word, allowed),
-        4 => Ran {
+        TAG_MAIN => begin(file, m, allowed),
+        TAG_RUNNING => proceed(file, m, allowed),
+        TAG_RETURNED => conclude(m, word, allowed),
+        TAG_VALUE => Ran {
             outcome: Outcome::Value(signed(word)),
             steps: 0,
         },
-        5 => Ran {
+        TAG_ARITH => Ran {
             outcome: Outcome::Arith,
             steps: 0,
         },
