@@ -1,4 +1,4 @@
-// A run in lent memory: the head of the state is taken out, kept in locals while rules are taken, and put back at the end.
+// A run in lent memory: the head of the image is taken out into registers, kept there while rules are taken, and put back at the end.
 use arith::signed;
 use records::count_of;
 use records::format::MOST_FUNCTIONS;
@@ -51,7 +51,7 @@ pub struct Ran {
     pub steps: u64,
 }
 
-// Puts the head of a running state back.
+// Puts the registers of a running state back into the head of the image.
 fn put_back(m: &mut [u32], c: Control, h: Registers)
     requires { ⌜ Bounds h (now m) ⌝ }
     ensures { λ _. ⌜ ((s : List ℕ) → Holding s (now (m .entry)) h (λ f η K A R. now (m .exit) ≡ image (running (controlIs c) emptyEnv f η K A) ++ R)) ⌝ }

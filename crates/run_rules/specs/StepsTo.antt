@@ -1,4 +1,4 @@
--- What the head of a running state says, and what a step comes to.
+-- What the registers of a running state say, and what a step comes to.
 use mathlib.Core.Path.{_≡_}
 use mathlib.Core.Bool.{true, false}
 use mathlib.Core.List.{List, _∷_, _++_}
@@ -54,7 +54,7 @@ pub record Called (s : List ℕ) (h : Registers) (l : List ℕ) : Type 0 where
   pub tells : Describes s h function frames (saved caller callerVariables callerFrames ∷ callers)
   pub known : caller < functions s
 
--- the state t goes on with the control c, and the memory m and the head h hold the rest of it
+-- the state t goes on with the control c, and the memory m and the registers h hold the rest of it
 pub record Continues (s : List ℕ) (c : Control) (h : Registers) (m R : List ℕ) (t : State) : Type 0 where
   pub function : ℕ
   pub variables : List Value

@@ -58,7 +58,7 @@ Executes t Ref.nop = Unit {0}
 Executes t (ifOf w) = InPart t w × (kindAt t w ≡ 11)
 Executes t (seqOf w) = InPart t w × (kindAt t w ≡ 11)
 
--- the file is accepted, and the memory l and the head h hold a fit state with the control c
+-- the file is accepted, and the memory l and the registers h hold a fit state with the control c
 pub record AtFitState (s table : List ℕ) (c : Control) (h : Registers) (l : List ℕ) : Type 0 where
   pub passed : checkOf s ≡ accepted
   pub starts : Starts s table

@@ -39,7 +39,7 @@ ghost use Rattle.run_rules.specs.StepsTo.{Describes, Bounds, Called, Cleared, S
 ghost use Rattle.records.specs.Starts.{Starts};
 ghost use Rattle.run_step.specs.StepsBy.{IsInt, IsTruth, Node, AtFitState, StepsBy};
 
-// What nobody can ask for.
+// The answer where no rule applies: it asks for a contradiction, so no caller can reach it.
 fn unreachable() -> Stepped
     requires { ⌜ ⊥ ⌝ }
     ensures { λ _. ⌜ ⊥ ⌝ }
@@ -246,7 +246,7 @@ fn give(
     }
 }
 
-// One step of a running state: the control and the head are handed on, and the rest is in the memory.
+// One step of a running state: the control and the registers are handed on, and the rest is in the memory.
 pub fn step(
     file: &[u8],
     starts: &[usize; MOST_FUNCTIONS],

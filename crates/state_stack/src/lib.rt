@@ -1,4 +1,4 @@
-// The frames, variables and activations of a running state, changed in lent memory.
+// The frames and variables of a running state, changed in lent memory; top frame, activations and head are modules of their own.
 pub mod activations;
 pub mod head;
 pub mod top;
