@@ -7,7 +7,6 @@ use Prim.Native.Nat.{ℕ}
 use lib.Dec.{eqb}
 use borrow.Author.Tests.{eqb-true}
 use Rattle.varset.specs.Sets.{Set, has, none, with, without, both, either, less, Sub}
-use Rattle.varset.proofs.Laws.{none-is}
 use Rattle.records.proofs.Bools.{both-mono, and-left, and-right, and-both, or-more, by, or-cases, clash, or-last}
 use Rattle.spec_language.specs.Statements.{Read, Statement, Nop, Seq, Assign, Decl, If, While, Return, Assert, Expr}
 use Rattle.spec_language.specs.Flow.{declares, leaves, returns}
@@ -85,10 +84,6 @@ module _ {s : Statement} {d : Set} {c₁ w₁ c r w : ℕ} where
         declared = λ y l. or-cases (declares s y) (eqb y x) l (p .declared y) (λ t. rw (eqb-true y x t) o);
         returning = λ z. p .returning (sym e ∙ z);
       }
-
--- a word of 0 has no members
-pub empty-word : (n : ℕ) → eqb n 0 ≡ true → has n ≡ none
-empty-word n e = rw (eqb-true n 0 e) none-is
 
 -- statements without parts
 module _ {d : Set} {c r w : ℕ} where

@@ -11,7 +11,7 @@ ghost use Prim.Native.Nat.{_+_, _*_, _≤_, _<_};
 ghost use lib.ListN.{length};
 ghost use Rattle.spec_language.specs.Types.{unset};
 ghost use Rattle.records.specs.Format.{mostVariables};
-ghost use Rattle.varset.specs.Sets.{Set, has, none, Sub};
+ghost use Rattle.varset.specs.Sets.{Set, has, Sub};
 ghost use Rattle.records.specs.Fields.{kindAt, bAt};
 ghost use Rattle.spec_language.specs.Statements.{Statement, Seq, Decl, If, While, Read};
 ghost use Rattle.check_effects.specs.Effects.{Covers, Means};
@@ -35,13 +35,6 @@ pub fn with_decl(part: &[u8], i: usize, set: VarSet) -> VarSet
     } else {
         set
     }
-}
-
-// Whether a set has no members.
-pub fn is_empty(set: VarSet) -> bool
-    ensures { λ r. ⌜ (r ≡ true → has (set .0) ≡ none) ⌝ }
-{
-    set.0 == 0
 }
 
 // A code, or the code of a failure.
@@ -75,7 +68,7 @@ pub fn in_sequence(first: Effect, second: Effect, declared: VarSet) -> Effect
     let after = second.sets;
     let code = code_either(first.code, second.code);
     Effect {
-        code: code_if(is_empty(late.meet(declared)), code),
+        code: code_if(late.meet(declared).is_empty(), code),
         reads: early.union(late.minus(set)),
         sets: set.minus(declared).union(after),
     }

@@ -160,7 +160,7 @@ fn passes(
     let last = n - 1;
     let body = nodes::effect_of(codes, reads, sets, last);
     let late = body.reads;
-    (body.code == 4) & (size_at(part, last) == n) & check_effects::is_empty(late.minus(begun))
+    (body.code == 4) & (size_at(part, last) == n) & late.minus(begun).is_empty()
 }
 
 // Whether the part of function f, of n nodes, is shown to pass questions 7 to 14.

@@ -1,14 +1,12 @@
--- The fields of a function record, and those of a node whose kind has no arm of its own.
+-- The fields of a node whose kind has no arm of its own.
 use mathlib.Core.Path.{_≡_, refl, sym}
 use mathlib.Core.Bool.{Bool, true, false, _&&_}
 use mathlib.Core.List.{List}
 use Prim.Native.Nat.{ℕ, zero, suc, _+_, _≤_, _<_}
 use native.Mathlib.Omega.{arith}
-use lib.Dec.{eqb, leb}
+use lib.Dec.{eqb}
 use lib.ListN.{List·getD-eq-default}
-use borrow.Author.Tests.{eqb-true, eqb-false, lt-leb}
-use Rattle.records.specs.Fields.{markAt, resultOf, paramsOf}
-use Rattle.spec_language.specs.Records.{functionOk}
+use borrow.Author.Tests.{eqb-true, eqb-false}
 use Rattle.spec_language.specs.Nodes.{fields, fieldsOk}
 
 -- P at lo and the m - 1 numbers after it
@@ -37,13 +35,3 @@ module _ (s : List ℕ) (f a b : ℕ) where
   pub fields-high : (k : ℕ) → 16 ≤ k → false ≡ fieldsOk s f k a b
   unfolding fieldsOk fields
   fields-high k h = sym (List·getD-eq-default (fields s f a b) false {n = k} h)
-
--- a function with more than 8 parameters
-pub params-many : (s : List ℕ) (f : ℕ) → 8 < paramsOf s f → false ≡ functionOk s f
-unfolding functionOk
-params-many s f h = rw (lt-leb (paramsOf s f) 8 h) (go (eqb (markAt s (1 + f)) 20038) (leb (resultOf s f) 2))
-  where
-    go : (a b : Bool) → false ≡ a && (b && false)
-    go true true = refl
-    go true false = refl
-    go false b = refl

@@ -7,6 +7,7 @@ use records::format::MOST_VARIABLES;
 use records::format::NODE_MARK;
 use records::function_count;
 use records::mark_at;
+use records::mask_fits;
 use records::mask_of;
 use records::minus;
 use records::nodes::a_at;
@@ -21,7 +22,7 @@ use records::vars_of;
 use records::wide;
 ghost use mathlib.Core.Path.{_≡_};
 ghost use mathlib.Core.Bool.{not, _&&_};
-ghost use Prim.Native.Nat.{_+_, _*_, _^_, _≤_, _<_};
+ghost use Prim.Native.Nat.{_+_, _*_, _≤_, _<_};
 ghost use lib.Dec.{eqb, ltb};
 ghost use lib.ListN.{length};
 ghost use Rattle.records.specs.Fields.{functions, paramsOf, sizeAt};
@@ -30,14 +31,6 @@ ghost use Rattle.records.specs.Children.{walk};
 ghost use Rattle.spec_language.specs.Records.{functionOk};
 ghost use Rattle.spec_language.specs.Nodes.{fieldsOk, nodeOk, total, sizeOk};
 ghost use Rattle.check_shape.specs.Failing.{fails};
-
-// Whether a mask of parameters has no bit from p on.
-fn mask_fits(mask: u8, p: u8) -> bool
-    requires { ⌜ p ≤ 8 ⌝ }
-    ensures { λ r. ⌜ r ≡ ltb mask (2 ^ p) ⌝ }
-{
-    wide(mask) < (1u32 << p)
-}
 
 // Whether the record of function f is right.
 fn function_ok(file: &[u8], f: usize) -> bool
@@ -50,16 +43,11 @@ fn function_ok(file: &[u8], f: usize) -> bool
     let v = vars_of(file, f);
     let zeros = u16_at(file, 12 * (1 + f) + 6);
     let count = count_of(file, f);
-    if p <= MOST_PARAMETERS {
-        let fits = mask_fits(mask_of(file, f), p);
-        (mark == FUNCTION_MARK)
-            & ((result <= 2)
-                & ((p <= MOST_PARAMETERS)
-                    & (((p <= v) & (v <= MOST_VARIABLES))
-                        & (fits & ((zeros == 0) & (1 <= count))))))
-    } else {
-        false
-    }
+    let fits = mask_fits(mask_of(file, f), p);
+    (mark == FUNCTION_MARK)
+        & ((result <= 2)
+            & ((p <= MOST_PARAMETERS)
+                & (((p <= v) & (v <= MOST_VARIABLES)) & (fits & ((zeros == 0) & (1 <= count))))))
 }
 
 // The lowest function whose record is not right.

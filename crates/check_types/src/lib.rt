@@ -25,17 +25,25 @@ ghost use Rattle.records.specs.Fields.{functions, paramsOf, kindAt};
 ghost use Rattle.records.specs.Parts.{Laid};
 ghost use Rattle.records.specs.Search.{firstOf};
 ghost use Rattle.records.specs.Children.{children};
-ghost use Rattle.spec_language.specs.Types.{paramType, varType, operatorType, typeAt, condition, wantAt, suits, agree};
+ghost use Rattle.spec_language.specs.Types.{maskType, paramType, varType, operatorType, typeAt, condition, wantAt, suits, agree};
 ghost use Rattle.spec_language.specs.Nodes.{mistyped};
 ghost use Rattle.spec_language.specs.Known.{Known, CallsKnown};
 ghost use Rattle.check_scopes.specs.Counts.{Decls};
+
+// The type of parameter k by a mask of bool parameters.
+pub fn mask_type(mask: u8, k: usize) -> u8
+    requires { ⌜ k < 8 ⌝ }
+    ensures { λ r. ⌜ r ≡ maskType mask k ⌝ }
+{
+    1 + (mask >> k) % 2
+}
 
 // The type of parameter k of function f.
 pub fn param_type(file: &[u8], f: usize, k: usize) -> u8
     requires { ⌜ (12 * (1 + f) + 12 ≤ length (now file)) × (k < 8) ⌝ }
     ensures { λ r. ⌜ r ≡ paramType (now (file .entry)) f k ⌝ }
 {
-    1 + (mask_of(file, f) >> k) % 2
+    mask_type(mask_of(file, f), k)
 }
 
 // The type of variable x of function f.

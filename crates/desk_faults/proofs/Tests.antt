@@ -1,20 +1,14 @@
 -- Tests in the code's form and in the definitions' form.
-use mathlib.Core.Path.{_≡_, sym}
+use mathlib.Core.Path.{_≡_}
 use mathlib.Core.Bool.{Bool, true, false, _&&_}
 use mathlib.Core.List.{List}
-use Prim.Native.Nat.{ℕ, suc, _+_, _^_, _<_}
+use Prim.Native.Nat.{ℕ, suc, _+_}
 use native.Mathlib.Numerals.{add-one}
 use native.Mathlib.Omega.{arith}
-use lib.Dec.{eqb, ltb}
-use lib.Pow.{pow-mono}
-use borrow.Author.Tests.{lt-ltb}
+use lib.Dec.{eqb}
 use Rattle.varset.specs.Lowest.{pick}
 use Rattle.records.specs.Fields.{kindAt, bAt}
 use Rattle.spec_language.specs.Scopes.{declaresAt, declCount}
-
--- a mask of eight bits fits where there are eight parameters or more
-pub mask-any : (mask p : ℕ) → mask < 256 → 8 < p → true ≡ ltb mask (2 ^ p)
-mask-any mask p m h = sym (lt-ltb mask (2 ^ p) (omega (arith, pow-mono {i = 8} {j = p} (omega arith))))
 
 -- one node more is counted where it declares the variable
 pub count-on : (t : List ℕ) (i x : ℕ) → declCount t (i + 1) x ≡ declCount t i x + pick (eqb (kindAt t i) 9 && eqb (bAt t i) x) 1 0

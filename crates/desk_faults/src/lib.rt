@@ -5,6 +5,7 @@ use records::format::MOST_PARAMETERS;
 use records::format::MOST_VARIABLES;
 use records::format::NODE_MARK;
 use records::mark_at;
+use records::mask_fits;
 use records::mask_of;
 use records::nodes::b_at;
 use records::nodes::kind_at;
@@ -12,10 +13,8 @@ use records::params_of;
 use records::result_of;
 use records::u16_at;
 use records::vars_of;
-use records::wide;
 ghost use mathlib.Core.Path.{_≡_};
-ghost use Prim.Native.Nat.{_*_, _^_, _≤_};
-ghost use lib.Dec.{ltb};
+ghost use Prim.Native.Nat.{_*_, _≤_};
 ghost use lib.ListN.{length};
 ghost use Rattle.varset.specs.Lowest.{pick};
 ghost use Rattle.spec_language.specs.Scopes.{declCount};
@@ -40,17 +39,6 @@ pub enum NodeFault {
     Mark,
     Kind,
     Fields,
-}
-
-// Whether a mask of parameters has no bit from p on.
-fn mask_fits(mask: u8, p: u8) -> bool
-    ensures { λ r. ⌜ r ≡ ltb mask (2 ^ p) ⌝ }
-{
-    if p <= MOST_PARAMETERS {
-        wide(mask) < (1u32 << p)
-    } else {
-        true
-    }
 }
 
 // The first of the seven tests of a function's record that fails.

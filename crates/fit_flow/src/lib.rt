@@ -30,7 +30,7 @@ pub struct Flowed {
 fn is_within(inner: VarSet, outer: VarSet) -> bool
     ensures { λ r. ⌜ (r ≡ true ↔ Sub (has (inner .0)) (has (outer .0))) ⌝ }
 {
-    fit_table::rows::is_none(inner.minus(outer))
+    inner.minus(outer).is_empty()
 }
 
 // How values flow through the statement at node i, by its row.

@@ -1,17 +1,13 @@
 -- The operands that a frame gathers, tested one by one.
 use mathlib.Core.Bool.{Bool, true, _&&_}
 use mathlib.Core.List.{List, [], _∷_, _++_, map}
-use Prim.Native.Nat.{ℕ, suc, _+_, _/_, _%_, _^_}
+use Prim.Native.Nat.{ℕ, suc}
 use lib.Dec.{eqb}
 use Rattle.varset.specs.Sets.{Set}
 use Rattle.spec_machine.specs.Values.{Ty, Value, typeV}
 use Rattle.spec_machine.specs.Program.{Program, typeN}
 use Rattle.spec_machine.specs.File.{typesFrom}
 use Rattle.spec_machine.specs.Test.{areTy, reads, exprIn, exprsIn, readsNodes}
-
--- the type that is wanted of operand k, by a mask of bools
-abbrev pub wantOf : ℕ → ℕ → Ty
-wantOf mask k = 1 + mask / 2 ^ k % 2
 
 -- the values from operand k on have the types wanted
 abbrev pub valuesSuit : (ℕ → Ty) → ℕ → List Value → Bool

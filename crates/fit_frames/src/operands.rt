@@ -1,4 +1,5 @@
 // The operands that a frame gathers: values and nodes in its slots, held to the types wanted.
+use check_types::mask_type;
 use fit_flow::reads_held;
 use fit_nodes::expression_type;
 use fit_nodes::is_expression;
@@ -10,6 +11,7 @@ ghost use Prim.Native.Nat.{ℕ, _+_, _*_, _-_, _≤_, _<_};
 ghost use lib.ListN.{length, getD, drop};
 ghost use Rattle.spec_image.specs.Sizes.{frameRoom, size};
 ghost use Rattle.varset.specs.Sets.{has};
+ghost use Rattle.spec_language.specs.Types.{maskType};
 ghost use Rattle.check_scopes.specs.Counts.{Decls};
 ghost use Rattle.spec_machine.specs.Values.{typeV};
 ghost use Rattle.spec_machine.specs.File.{programOf};
@@ -17,16 +19,8 @@ ghost use Rattle.spec_image.specs.Decode.{valueOf, valuesOf, nodesOf};
 ghost use Rattle.state_words.specs.Meaning.{frameAt};
 ghost use Rattle.fit_table.specs.Tables.{TableSays};
 ghost use Rattle.fit_nodes.specs.Part.{Part};
-ghost use Rattle.fit_frames.specs.Operands.{wantOf, valuesSuit, nodeSuits, nodesSuit, gathered};
+ghost use Rattle.fit_frames.specs.Operands.{valuesSuit, nodeSuits, nodesSuit, gathered};
 ghost use Rattle.fit_frames.specs.Slots.{slotsIn};
-
-// The type that is wanted of operand k, by a mask of bools.
-fn wanted(mask: u8, k: usize) -> u8
-    requires { ⌜ k < 8 ⌝ }
-    ensures { λ r. ⌜ r ≡ wantOf mask k ⌝ }
-{
-    1 + (mask >> k) % 2
-}
 
 // The type of a value, by the first of its words.
 pub fn tag_type(tag: u32) -> u8
@@ -42,11 +36,11 @@ pub fn tag_type(tag: u32) -> u8
 // Whether the first y slots of a frame hold values of the types wanted.
 fn values_suit(m: &[u32], i: usize, mask: u8, y: usize) -> bool
     requires { ⌜ (size ≤ length (now m)) × (i < frameRoom) × (y < 8) ⌝ }
-    ensures { λ r. ⌜ r ≡ valuesSuit (wantOf mask) 0 (valuesOf y (slotsIn (now (m .entry)) i)) ⌝ }
+    ensures { λ r. ⌜ r ≡ valuesSuit (maskType mask) 0 (valuesOf y (slotsIn (now (m .entry)) i)) ⌝ }
 {
     let mut k = 0;
     while k < y {
-        if wanted(mask, k) != tag_type(frame_word(m, i, 4 + k * 2)) {
+        if mask_type(mask, k) != tag_type(frame_word(m, i, 4 + k * 2)) {
             return false;
         }
         k += 1;
@@ -95,11 +89,11 @@ fn nodes_suit(
 ) -> bool
     requires part { ⌜ Part (now file) f (now part) n × Decls (now part) n (now decls) × TableSays (now part) n (now table) ⌝ }
     requires room { ⌜ (size ≤ length (now m)) × (i < frameRoom) × (y ≤ end) × (end < 8) ⌝ }
-    ensures { λ r. ⌜ r ≡ nodesSuit (programOf (now (file .entry))) f (has (set .0)) (wantOf mask) (y + 1) (nodesOf (end - y) (drop (2 * y) (slotsIn (now (m .entry)) i))) ⌝ }
+    ensures { λ r. ⌜ r ≡ nodesSuit (programOf (now (file .entry))) f (has (set .0)) (maskType mask) (y + 1) (nodesOf (end - y) (drop (2 * y) (slotsIn (now (m .entry)) i))) ⌝ }
 {
     let mut j = y;
     while j < end {
-        let want = wanted(mask, j + 1);
+        let want = mask_type(mask, j + 1);
         if !node_suits(
             file,
             f,
@@ -135,7 +129,7 @@ pub fn gathers(
 ) -> bool
     requires part { ⌜ Part (now file) f (now part) n × Decls (now part) n (now decls) × TableSays (now part) n (now table) ⌝ }
     requires room { ⌜ (size ≤ length (now m)) × (i < frameRoom) × (count ≤ 8) ⌝ }
-    ensures { λ r. ⌜ r ≡ gathered (programOf (now (file .entry))) f (has (set .0)) (wantOf mask) count kind (valuesOf (getD (now (m .entry)) (frameAt i + 2) 0) (slotsIn (now (m .entry)) i)) (nodesOf (getD (now (m .entry)) (frameAt i + 3) 0) (drop (2 * getD (now (m .entry)) (frameAt i + 2) 0) (slotsIn (now (m .entry)) i))) ⌝ }
+    ensures { λ r. ⌜ r ≡ gathered (programOf (now (file .entry))) f (has (set .0)) (maskType mask) count kind (valuesOf (getD (now (m .entry)) (frameAt i + 2) 0) (slotsIn (now (m .entry)) i)) (nodesOf (getD (now (m .entry)) (frameAt i + 3) 0) (drop (2 * getD (now (m .entry)) (frameAt i + 2) 0) (slotsIn (now (m .entry)) i))) ⌝ }
 {
     let y = frame_word(m, i, 2);
     let z = frame_word(m, i, 3);
@@ -153,7 +147,7 @@ pub fn gathers(
     if !values_suit(m, i, mask, low) {
         return false;
     }
-    if wanted(mask, low) != kind {
+    if mask_type(mask, low) != kind {
         return false;
     }
     nodes_suit(file, f, part, n, decls, table, m, i, mask, low, end, set)

@@ -1,6 +1,5 @@
 pub mod SetTables
 pub mod SummaryParts
-pub mod EmptyWord
 pub mod Fails
 pub mod Ranges
 pub mod Filling

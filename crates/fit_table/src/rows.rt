@@ -21,13 +21,6 @@ pub struct Row {
     pub declared: VarSet,
 }
 
-// Whether a set has no members.
-pub fn is_none(set: VarSet) -> bool
-    ensures { λ r. ⌜ (r ≡ true ↔ (has (set .0) ≡ none)) ⌝ }
-{
-    set.0 == 0
-}
-
 // Whether one of two fails, or they do not go together.
 fn fails_with(first: bool, second: bool, together: bool) -> bool
     ensures { λ r. ⌜ (r ≡ false ↔ ((first ≡ false) × (second ≡ false) × (together ≡ true))) ⌝ }
@@ -63,7 +56,7 @@ pub fn in_sequence(first: Row, second: Row) -> Row
     let here = first.declared;
     let there = second.declared;
     let late = after.minus(set);
-    let together = is_none(late.meet(gone));
+    let together = late.meet(gone).is_empty();
     Row {
         fails: fails_with(first.fails, second.fails, together),
         returned: first.returned | second.returned,

@@ -4,7 +4,8 @@ pub mod nodes;
 pub mod starts;
 
 ghost use mathlib.Core.Path.{_≡_};
-ghost use Prim.Native.Nat.{ℕ, _+_, _*_, _-_, _≤_, _<_};
+ghost use Prim.Native.Nat.{ℕ, _+_, _*_, _-_, _^_, _≤_, _<_};
+ghost use lib.Dec.{ltb};
 ghost use lib.ListN.{length};
 ghost use Rattle.records.specs.Bytes.{u16At, u32At};
 ghost use Rattle.records.specs.Fields.{markAt, functions, nodes, resultOf, paramsOf, varsOf, maskOf, countOf};
@@ -121,6 +122,17 @@ pub fn mask_of(file: &[u8], f: usize) -> u8
     ensures { λ r. ⌜ r ≡ maskOf (now (file .entry)) f ⌝ }
 {
     file[12 * (1 + f) + 5]
+}
+
+// Whether a mask of bool parameters has no bit from p on.
+pub fn mask_fits(mask: u8, p: u8) -> bool
+    ensures { λ r. ⌜ r ≡ ltb mask (2 ^ p) ⌝ }
+{
+    if p <= 8 {
+        wide(mask) < (1u32 << p)
+    } else {
+        true
+    }
 }
 
 // Its part's node count.

@@ -16,9 +16,13 @@ unset = 255
 abbrev pub any : ℕ
 any = 254
 
+-- the type of parameter k by a mask of bool parameters
+abbrev pub maskType : ℕ → ℕ → ℕ
+maskType mask k = 1 + mask / 2 ^ k % 2
+
 -- the type of parameter k of function f
 unfoldable pub paramType : List ℕ → ℕ → ℕ → ℕ
-paramType s f k = 1 + maskOf s f / 2 ^ k % 2
+paramType s f k = maskType (maskOf s f) k
 
 -- the type of variable x of function f, whose part t has n nodes: a parameter's, or its decl's
 unfoldable pub varType : List ℕ → ℕ → List ℕ → ℕ → ℕ → ℕ

@@ -1,5 +1,7 @@
 // Sets of variables over a word: member i is bit i.
 ghost use mathlib.Core.Path.{_≡_};
+ghost use mathlib.Core.Bool.{true};
+ghost use mathlib.Core.Logic.{_↔_};
 ghost use Prim.Native.Nat.{_<_, _≤_};
 ghost use Rattle.varset.specs.Lowest.{lowest};
 ghost use Rattle.varset.specs.Sets.{has, none, with, without, both, either, less, below};
@@ -65,6 +67,13 @@ impl VarSet {
         ensures { λ r. ⌜ has (r .0) ≡ less (has (self .0)) (has (other .0)) ⌝ }
     {
         VarSet(self.0 ^ (self.0 & other.0))
+    }
+
+    // Whether there is no member.
+    pub fn is_empty(self) -> bool
+        ensures { λ r. ⌜ (r ≡ true ↔ (has (self .0) ≡ none)) ⌝ }
+    {
+        self.0 == 0
     }
 
     // Whether i is a member.

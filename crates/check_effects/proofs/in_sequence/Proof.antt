@@ -29,7 +29,7 @@ union-requires-2 : tie.Need-union-requires-2
 union-requires-2 c κs = search needs
 
 returns : tie.Need-returns
-returns c = λ s u p q l. sequence-means p q (sym (c .before .before .before .before .before .before .meet .ensures) ∙ c .before .before .before .before .before .is-empty .ensures (c .before .before .before .before .code-if .ensures l .0)) (c .before .before .union .ensures ∙ rw (c .before .before .before .minus .ensures)) (c .union2 .ensures ∙ rw (c .before .minus2 .ensures)) (λ z. c .before .before .before .before .before .before .before .code-either .ensures (sym (c .before .before .before .before .code-if .ensures l .1) ∙ z))
+returns c = λ s u p q l. sequence-means p q (sym (c .before .before .before .before .before .before .meet .ensures) ∙ c .before .before .before .before .before .is-empty .ensures .0 (c .before .before .before .before .code-if .ensures l .0)) (c .before .before .union .ensures ∙ rw (c .before .before .before .minus .ensures)) (c .union2 .ensures ∙ rw (c .before .minus2 .ensures)) (λ z. c .before .before .before .before .before .before .before .code-either .ensures (sym (c .before .before .before .before .code-if .ensures l .1) ∙ z))
 
 pub in-sequence-spec : {M : Type 1} → statement M
 in-sequence-spec =

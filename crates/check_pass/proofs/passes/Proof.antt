@@ -80,7 +80,7 @@ same-length-6 : tie.Need-same-length-6 Inv-loop μ-loop
 same-length-6 c = c .before .before .before .before .before .before .before .before .before .before .loop .inv .1 .2
 
 returns-2 : tie.Need-returns-2 Inv-loop μ-loop
-returns-2 c = (λ z. all-pass _ _ _ _ _ _ _ (c .before .before .before .before .before .before .before .before .before .before .before .before .before .before .before .before .before .pre .0 .1) (omega (arith, c .before .before .before .before .before .before .before .before .before .loop-test .left)) (c .before .before .before .before .before .before .before .before .before .before .loop .inv .2) refl (c .before .before .before .before .before .effect-of .ensures _ _ _ _ _ _ (c .before .before .before .before .before .before .before .before .before .before .loop .inv .2)) (c .before .before .size-at .ensures .0) (c .before .minus .ensures) (c .is-empty .ensures) z, c .before .before .before .before .before .before .before .before .before .before .loop .inv .1)
+returns-2 c = (λ z. all-pass _ _ _ _ _ _ _ (c .before .before .before .before .before .before .before .before .before .before .before .before .before .before .before .before .before .pre .0 .1) (omega (arith, c .before .before .before .before .before .before .before .before .before .loop-test .left)) (c .before .before .before .before .before .before .before .before .before .before .loop .inv .2) refl (c .before .before .before .before .before .effect-of .ensures _ _ _ _ _ _ (c .before .before .before .before .before .before .before .before .before .before .loop .inv .2)) (c .before .before .size-at .ensures .0) (c .before .minus .ensures) (c .is-empty .ensures .0) z, c .before .before .before .before .before .before .before .before .before .before .loop .inv .1)
 
 pub passes-spec : {M : Type 1} → statement M
 passes-spec =

@@ -1,6 +1,5 @@
 use borrow.Author.Needs.{needs}
 use Rattle.spec_language.specs.Records.{within, functionOk}
-use Rattle.check_shape.proofs.Fields.{params-many}
 use Rattle.check_shape.proofs.function_ok.Statement.{statement}
 use Rattle.check_shape.proofs.function_ok.Tie as tie
 
@@ -42,10 +41,7 @@ mask-fits-requires c κs = search needs
 
 returns : tie.Need-returns
 unfolding functionOk within
-returns c = rw (c .before .before .before .before .before .before .before .before .mark-at .ensures, c .before .before .before .before .before .before .before .result-of .ensures, c .mask-fits .ensures, c .before .mask-of .ensures, c .before .before .before .before .before .before .params-of .ensures, c .before .before .before .before .before .vars-of .ensures, c .before .before .before .before .u16-at .ensures .0, c .before .before .before .count-of .ensures .0)
-
-returns-2 : tie.Need-returns-2
-returns-2 c = params-many _ _ (rw (c .before .before .before .before .params-of .ensures) at (c .if1 .left))
+returns c = rw (c .before .before .before .before .before .before .before .mark-at .ensures, c .before .before .before .before .before .before .result-of .ensures, c .mask-fits .ensures, c .before .mask-of .ensures, c .before .before .before .before .before .params-of .ensures, c .before .before .before .before .vars-of .ensures, c .before .before .before .u16-at .ensures .0, c .before .before .count-of .ensures .0)
 
 pub function-ok-spec : {M : Type 1} → statement M
 function-ok-spec =
@@ -63,5 +59,4 @@ function-ok-spec =
     count-of-requires
     mask-of-requires
     mask-fits-requires
-    returns
-    returns-2)
+    returns)

@@ -7,11 +7,11 @@ use Rattle.fit_flow.proofs.is_within.Tie as tie
 minus-requires : tie.Need-minus-requires
 minus-requires c κs = search needs
 
-is-none-requires : tie.Need-is-none-requires
-is-none-requires c κs = search needs
+is-empty-requires : tie.Need-is-empty-requires
+is-empty-requires c κs = search needs
 
 returns : tie.Need-returns
-returns c = (λ e. within-is _ _ .0 (sym (c .before .minus .ensures) ∙ c .is-none .ensures .0 e), λ h. c .is-none .ensures .1 (c .before .minus .ensures ∙ within-is _ _ .1 h))
+returns c = (λ e. within-is _ _ .0 (sym (c .before .minus .ensures) ∙ c .is-empty .ensures .0 e), λ h. c .is-empty .ensures .1 (c .before .minus .ensures ∙ within-is _ _ .1 h))
 
 pub is-within-spec : {M : Type 1} → statement M
-is-within-spec = tie.close (tie.spec minus-requires is-none-requires returns)
+is-within-spec = tie.close (tie.spec minus-requires is-empty-requires returns)

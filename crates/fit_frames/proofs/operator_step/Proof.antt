@@ -1,9 +1,8 @@
 use mathlib.Core.Path.{refl, sym, _∙_}
 use borrow.Author.Tests.{not-true, not-false, lt-ltb, le-ltb}
-use Rattle.spec_language.specs.Types.{operatorType}
+use Rattle.spec_language.specs.Types.{maskType, operatorType}
 use Rattle.spec_machine.specs.File.{typesFrom}
 use Rattle.spec_image.specs.Decode.{operands}
-use Rattle.fit_frames.specs.Operands.{wantOf}
 use Rattle.fit_frames.proofs.Steps.{gather-none, gather-unknown, gather-law}
 use borrow.Author.Needs.{needs}
 use Rattle.fit_frames.proofs.operator_step.Statement.{statement}
@@ -40,7 +39,7 @@ giving-requires c κs = search needs
 
 returns-3 : tie.Need-returns-3
 unfolding operands typesFrom operatorType
-returns-3 c = gather-law (wantOf 0) 2 (not-false _ (c .before .before .before .before .before .if1 .left)) (rw (sym (c .before .before .before .before .before .before .before .frame-word .ensures)) (lt-ltb _ _ (c .before .before .before .before .if2 .left))) refl (c .before .before .gathers .ensures) (c .giving .ensures ∙ rw (c .before .operator-type .ensures, c .before .before .before .before .before .before .before .frame-word .ensures))
+returns-3 c = gather-law (maskType 0) 2 (not-false _ (c .before .before .before .before .before .if1 .left)) (rw (sym (c .before .before .before .before .before .before .before .frame-word .ensures)) (lt-ltb _ _ (c .before .before .before .before .if2 .left))) refl (c .before .before .gathers .ensures) (c .giving .ensures ∙ rw (c .before .operator-type .ensures, c .before .before .before .before .before .before .before .frame-word .ensures))
 
 pub operator-step-spec : {M : Type 1} → statement M
 operator-step-spec =

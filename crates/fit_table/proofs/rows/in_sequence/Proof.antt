@@ -10,8 +10,8 @@ minus-requires c κs = search needs
 meet-requires : tie.Need-meet-requires
 meet-requires c κs = search needs
 
-is-none-requires : tie.Need-is-none-requires
-is-none-requires c κs = search needs
+is-empty-requires : tie.Need-is-empty-requires
+is-empty-requires c κs = search needs
 
 fails-with-requires : tie.Need-fails-with-requires
 fails-with-requires c κs = search needs
@@ -35,7 +35,7 @@ returns : tie.Need-returns
 returns c =
     let late = c .before .before .before .before .before .before .before .before .before .before .minus .ensures in
     let lost = rw late at (c .before .before .before .before .before .before .before .before .before .meet .ensures) in
-    let empty = c .before .before .before .before .before .before .before .before .is-none .ensures in
+    let empty = c .before .before .before .before .before .before .before .before .is-empty .ensures in
     let fails = c .before .before .before .before .before .before .before .fails-with .ensures in
     λ s u p q. sequence-summary p q (λ h. (fails .0 h .0, fails .0 h .1, sym lost ∙ empty .0 (fails .0 h .2)), λ h. fails .1 (h .0, h .1, empty .1 (lost ∙ h .2)))
     (c .before .before .before .before .union .ensures ∙ rw late) (c .before .before .union2 .ensures ∙ rw (c .before .before .before .minus2 .ensures)) (c .before .union3 .ensures) (c .union4 .ensures) refl
@@ -46,7 +46,7 @@ in-sequence-spec =
     (tie.spec
     minus-requires
     meet-requires
-    is-none-requires
+    is-empty-requires
     fails-with-requires
     union-requires
     minus-requires-2

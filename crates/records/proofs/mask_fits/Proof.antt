@@ -1,8 +1,7 @@
 use borrow.Author.Needs.{needs}
-use Rattle.records.proofs.Masks.{mask-exact}
-use Rattle.desk_faults.proofs.Tests.{mask-any}
-use Rattle.desk_faults.proofs.mask_fits.Statement.{statement}
-use Rattle.desk_faults.proofs.mask_fits.Tie as tie
+use Rattle.records.proofs.Masks.{mask-exact, mask-any}
+use Rattle.records.proofs.mask_fits.Statement.{statement}
+use Rattle.records.proofs.mask_fits.Tie as tie
 
 wide-requires : tie.Need-wide-requires
 wide-requires c κs = search needs
