@@ -4,10 +4,22 @@ import os, re, subprocess
 ROOT = os.path.dirname(os.path.dirname(os.path.abspath(__file__)))
 
 
+def git(*words):
+    """The names that git lists, or none where the folder is no repository of git's."""
+    done = subprocess.run(['git', '-c', 'safe.directory=*', 'ls-files', '-z', *words], cwd=ROOT, capture_output=True)
+    return [f for f in done.stdout.decode().split('\0') if f]
+
+
+def walked():
+    """The files of the folder, but those under target."""
+    for folder, below, names in os.walk(ROOT):
+        below[:] = [name for name in below if name not in ('.git', 'target')]
+        yield from (os.path.relpath(os.path.join(folder, name), ROOT) for name in names)
+
+
 def files():
     """The files that git has, or would take, by their paths from the root."""
-    names = subprocess.run(['git', 'ls-files', '-co', '--exclude-standard', '-z'], cwd=ROOT, check=True, capture_output=True).stdout.decode()
-    return sorted(f for f in set(names.split('\0')) if f and os.path.isfile(os.path.join(ROOT, f)))
+    return sorted(f for f in set(git('-co', '--exclude-standard') or walked()) if os.path.isfile(os.path.join(ROOT, f)))
 
 
 def read(path):

@@ -128,7 +128,7 @@ pub fn mask_of(file: &[u8], f: usize) -> u8
 pub fn mask_fits(mask: u8, p: u8) -> bool
     ensures { λ r. ⌜ r ≡ ltb mask (2 ^ p) ⌝ }
 {
-    if p <= 8 {
+    if p <= format::MOST_PARAMETERS {
         wide(mask) < (1u32 << p)
     } else {
         true
