@@ -1,5 +1,6 @@
 // The entry points that only read lent memory: the memory check and look-up.
 use check_file::Answer;
+use check_file::Refusal;
 use state_words::Value;
 ghost use mathlib.Core.Path.{_≡_};
 ghost use mathlib.Core.Bool.{true};
@@ -21,11 +22,7 @@ pub enum Look {
     Nothing,
     Int(i32),
     Truth(bool),
-    Refused {
-        question: u8,
-        place: usize,
-        item: u32,
-    },
+    Refused(Refusal),
 }
 
 // Whether the first 16,384 words hold the image of a state that is fit for the file's program.
@@ -44,30 +41,22 @@ pub fn check_memory(file: &[u8], m: &[u32]) -> Answer
     ensures answer { λ r. ⌜ says r ≡ memoryAnswer (now (file .entry)) (now (m .entry)) ⌝ }
     ensures small { λ r. ⌜ Small r ⌝ }
 {
-    if let Answer::Refused {
-        question,
-        place,
-        item,
-    } = check_file::check(file) {
-        return Answer::Refused {
-            question,
-            place,
-            item,
-        };
+    if let Answer::Refused(refusal) = check_file::check(file) {
+        return Answer::Refused(refusal);
     }
     if m.len() < 16384 {
-        return Answer::Refused {
+        return Answer::Refused(Refusal {
             question: 15,
             place: 0,
             item: 0,
-        };
+        });
     }
     if !holds_fit(file, m) {
-        return Answer::Refused {
+        return Answer::Refused(Refusal {
             question: 16,
             place: 0,
             item: 0,
-        };
+        });
     }
     Answer::Accepted
 }
@@ -113,23 +102,15 @@ pub fn look_up(file: &[u8], m: &[u32], x: u32) -> Look
     ensures answer { λ r. ⌜ r ≡ lookOf (lookAnswer (now (file .entry)) (now (m .entry)) x) ⌝ }
     ensures small { λ r. ⌜ SmallLook r ⌝ }
 {
-    if let Answer::Refused {
-        question,
-        place,
-        item,
-    } = check_memory(file, m) {
-        return Look::Refused {
-            question,
-            place,
-            item,
-        };
+    if let Answer::Refused(refusal) = check_memory(file, m) {
+        return Look::Refused(refusal);
     }
     if !has_variable(m, x) {
-        return Look::Refused {
+        return Look::Refused(Refusal {
             question: 17,
             place: 0,
             item: 0,
-        };
+        });
     }
     look_of(value_in(m, x))
 }

@@ -1,5 +1,6 @@
 // The entry points on lent memory.
 use check_file::Answer;
+use check_file::Refusal;
 ghost use mathlib.Core.Path.{_≡_};
 ghost use Rattle.check_file.specs.Answers.{says, Small};
 ghost use Rattle.spec_image.specs.Image.{image};
@@ -25,23 +26,15 @@ pub fn start(file: &[u8], m: &mut [u32]) -> Answer
     ensures memory { λ r. ⌜ now (m .exit) ≡ startMemory (now (file .entry)) (now (m .entry)) ⌝ }
     ensures small { λ r. ⌜ Small r ⌝ }
 {
-    if let Answer::Refused {
-        question,
-        place,
-        item,
-    } = check_file::check(file) {
-        return Answer::Refused {
-            question,
-            place,
-            item,
-        };
+    if let Answer::Refused(refusal) = check_file::check(file) {
+        return Answer::Refused(refusal);
     }
     if m.len() < 16384 {
-        return Answer::Refused {
+        return Answer::Refused(Refusal {
             question: 15,
             place: 0,
             item: 0,
-        };
+        });
     }
     write_start(m, 16384);
     Answer::Accepted

@@ -54,20 +54,12 @@ fn put_end(out: &mut [u8], ran: Ran) -> usize {
 // Starts a file's procedure, runs it and puts the answer.
 fn put_run(file: &[u8], out: &mut [u8]) -> usize {
     let mut memory = [0u32; 16384];
-    if let Answer::Refused {
-        question,
-        place,
-        item,
-    } = entry_start::start(file, &mut memory) {
-        return put_refusal(out, 0, question, place, item);
+    if let Answer::Refused(r) = entry_start::start(file, &mut memory) {
+        return put_refusal(out, 0, r.question, r.place, r.item);
     }
     match entry_run::run(file, &mut memory, 10000) {
         Reply::Ended(ran) => put_end(out, ran),
-        Reply::Refused {
-            question,
-            place,
-            item,
-        } => put_refusal(out, 0, question, place, item),
+        Reply::Refused(r) => put_refusal(out, 0, r.question, r.place, r.item),
     }
 }
 

@@ -5,11 +5,7 @@ use check_file::Answer;
 fn put_answer(file: &[u8], out: &mut [u8]) -> usize {
     match check_file::check(file) {
         Answer::Accepted => texts::put(out, 0, b"passed\n"),
-        Answer::Refused {
-            question,
-            place,
-            item,
-        } => texts::put_refusal(out, 0, question, place, item),
+        Answer::Refused(r) => texts::put_refusal(out, 0, r.question, r.place, r.item),
     }
 }
 

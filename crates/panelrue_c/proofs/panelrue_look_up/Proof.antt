@@ -36,11 +36,11 @@ bit-requires c κs = search needs
 tell-look-requires-3 : tie.Need-tell-look-requires-3
 tell-look-requires-3 c κs = search needs
 
-enum-known-question : tie.Need-enum-known-question
-enum-known-question c = search needs
+enum-known-refusal : tie.Need-enum-known-refusal
+enum-known-refusal c = search needs
 
 pack-requires : tie.Need-pack-requires
-pack-requires c κs = rw (c .before .question .given .1) at (c .before .before .before .look-up .ensures .1)
+pack-requires c κs = rw (c .before .refusal .given .1) at (c .before .before .before .look-up .ensures .1)
 
 same-length : tie.Need-same-length
 same-length c = search needs
@@ -72,7 +72,7 @@ returns-3 c =
 returns-4 : tie.Need-returns-4
 unfolding lookNumber lookWords
 returns-4 c =
-    let e = sym (c .before .before .before .before .look-up .ensures .0) ∙ c .before .before .question .given .1 in
+    let e = sym (c .before .before .before .before .look-up .ensures .0) ∙ c .before .before .refusal .given .1 in
     (rw e (c .pack .ensures), rw e)
 
 pub panelrue-look-up-spec : {M : Type 1} → statement M
@@ -89,7 +89,7 @@ panelrue-look-up-spec =
     enum-known-truth
     bit-requires
     tell-look-requires-3
-    enum-known-question
+    enum-known-refusal
     pack-requires
     same-length
     returns
