@@ -35,7 +35,7 @@ module _ (s m : List ℕ) (a : ℕ) where
         let h = holds-fit (programOf s) m (q .2) in
         record { passed = q .0; state = stateOf m; rest = drop size m; held = held-whole m (stateOf m) (h .0); fit = h .1 }
 
-    pub run-room : 16384 ≤ length m
+    pub run-room : size ≤ length m
     run-room = memory-so s m e .1
 
     pub run-accepted : (r : Ran) (l : List ℕ)

@@ -17,7 +17,7 @@ ghost use Rattle.varset.specs.Lowest.{pick};
 ghost use lib.Dec.{leb};
 ghost use lib.ListN.{length};
 ghost use Rattle.panelrue_c.specs.Packed.{packedRefusal, packed};
-ghost use Rattle.panelrue_c.specs.HostAnswers.{outcomeNumber, outcomeWord, runNumber, runWords, bitOf, lookNumber, lookWords};
+ghost use Rattle.panelrue_c.specs.HostAnswers.{outcomeNumber, outcomeWord, runNumber, runWords, lookNumber, lookWords};
 
 // The number of a refusal.
 fn pack(refusal: Refusal) -> u64
@@ -139,13 +139,6 @@ fn tell_look(answer: &mut [u64], kind: u64, word: u64)
     answer[1] = word;
 }
 
-// The number of a bool.
-fn bit(truth: bool) -> u64
-    ensures { λ r. ⌜ r ≡ bitOf truth ⌝ }
-{
-    if truth { 1 } else { 0 }
-}
-
 // What variable x of the current activation holds, where 0 is answered; a refusal leaves the answer as it was.
 #[no_mangle]
 pub extern "C" fn panelrue_look_up(file: &[u8], memory: &[u32], x: u32, answer: &mut [u64]) -> u64
@@ -162,7 +155,7 @@ pub extern "C" fn panelrue_look_up(file: &[u8], memory: &[u32], x: u32, answer: 
             0
         }
         Look::Truth(truth) => {
-            tell_look(answer, 2, bit(truth));
+            tell_look(answer, 2, state_words::bit_of(truth) as u64);
             0
         }
         Look::Refused(refusal) => pack(refusal),

@@ -1,5 +1,6 @@
 // Checks the procedure on standard input, and prints one line: passed, or the refusal.
 use check_file::Answer;
+use records::format::KEPT_BYTES;
 
 // Puts the answer to a file.
 fn put_answer(file: &[u8], out: &mut [u8]) -> usize {
@@ -10,7 +11,7 @@ fn put_answer(file: &[u8], out: &mut [u8]) -> usize {
 }
 
 fn main() {
-    let mut buffer = [0u8; 50701];
+    let mut buffer = [0u8; KEPT_BYTES];
     let n = io::read_full(0, &mut buffer);
     let mut line = [0u8; 64];
     let k = put_answer(&buffer[..n], &mut line);

@@ -2,6 +2,7 @@
 use check_file::Answer;
 use check_file::Refusal;
 use desk_files::Content;
+use records::format::KEPT_BYTES;
 use std::num::wrapping_add_u64;
 use texts::put;
 use texts::put_numbered;
@@ -260,7 +261,7 @@ fn is_argument(i: usize, word: &[u8]) -> bool {
 
 fn main() {
     let mut name = [0u8; 4096];
-    let mut file = [0u8; 50701];
+    let mut file = [0u8; KEPT_BYTES];
     let mut out = [0u8; 4096];
     let show = is_argument(1, b"--show");
     let first = if show { 2 } else { 1 };
