@@ -23,14 +23,17 @@ ghost use Rattle.spec_language.specs.Known.{Known, CallsKnown};
 ghost use Rattle.check_file.specs.Answers.{says, Small};
 ghost use Rattle.check_file.specs.Stages.{fromFour, Ready, PartsWithin};
 
-// Accepted, or refused by question, place and item.
+// A refusal: the question that fails, the record where it does, and the item that it names.
+pub struct Refusal {
+    pub question: u8,
+    pub place: usize,
+    pub item: u32,
+}
+
+// Accepted, or refused.
 pub enum Answer {
     Accepted,
-    Refused {
-        question: u8,
-        place: usize,
-        item: u32,
-    },
+    Refused(Refusal),
 }
 
 // What fails question q, from 7 to 14, in the part of function f, which has n nodes.
@@ -149,11 +152,11 @@ fn check_parts(file: &[u8]) -> Answer
     let mut q = 7;
     while q < 15 {
         if let Found::At(place, item) = first_in_parts(file, q) {
-            return Answer::Refused {
+            return Answer::Refused(Refusal {
                 question: q,
                 place,
                 item,
-            };
+            });
         }
         q += 1;
     }
@@ -168,25 +171,25 @@ fn check_functions(file: &[u8]) -> Answer
 {
     let functions = function_count(file);
     if let Found::At(f, item) = check_shape::first_function(file, functions) {
-        return Answer::Refused {
+        return Answer::Refused(Refusal {
             question: 4,
             place: 1 + f,
             item,
-        };
+        });
     }
     if !check_header::sum_ok(file, functions) {
-        return Answer::Refused {
+        return Answer::Refused(Refusal {
             question: 5,
             place: 0,
             item: 0,
-        };
+        });
     }
     if !check_header::main_ok(file) {
-        return Answer::Refused {
+        return Answer::Refused(Refusal {
             question: 6,
             place: 1,
             item: 0,
-        };
+        });
     }
     check_parts(file)
 }
@@ -198,32 +201,32 @@ pub fn check(file: &[u8]) -> Answer
 {
     let len = file.len();
     if len % 12 != 0 {
-        return Answer::Refused {
+        return Answer::Refused(Refusal {
             question: 1,
             place: 0,
             item: 0,
-        };
+        });
     }
     if len < SHORTEST_FILE {
-        return Answer::Refused {
+        return Answer::Refused(Refusal {
             question: 1,
             place: 0,
             item: 0,
-        };
+        });
     }
     if !check_header::header_ok(file) {
-        return Answer::Refused {
+        return Answer::Refused(Refusal {
             question: 2,
             place: 0,
             item: 0,
-        };
+        });
     }
     if !check_header::records_ok(file) {
-        return Answer::Refused {
+        return Answer::Refused(Refusal {
             question: 3,
             place: 0,
             item: 0,
-        };
+        });
     }
     check_functions(file)
 }

@@ -17,6 +17,7 @@ use std::num::wrapping_add_usize;
 use texts::kinds::put_operator;
 use texts::put;
 use texts::put_decimal;
+use texts::put_int;
 use texts::put_numbered;
 use texts::put_word;
 ghost use Prim.Native.Nat.{_*_, _≤_, _<_};
@@ -119,16 +120,6 @@ fn line_marked(part: &[u8], n: usize, i: usize, marked: usize) -> bool
     (marked <= i) & (i < wrapping_add_usize(marked, size_at(part, i)))
 }
 
-// Puts the int whose 32 bits are b.
-fn put_int(b: u32, out: &mut [u8], at: usize) -> usize
-    ensures { λ r. ⌜ r ≤ length (now (out .exit)) ⌝ }
-{
-    if b < 2147483648 {
-        return put_decimal(out, at, b as u64);
-    }
-    put_numbered(out, at, b"-", (4294967295 - b) as u64 + 1)
-}
-
 // Puts what a letter or a sign of a template stands for at node i.
 pub fn put_piece(
     part: &[u8],
@@ -165,7 +156,7 @@ pub fn put_piece(
         b'V' => put_numbered(out, at, b"x", b as u64),
         b'F' => put_numbered(out, at, b"f", b as u64),
         b'O' => put_operator(a_at(part, i), out, at),
-        b'I' => put_int(b, out, at),
+        b'I' => put_int(out, at, b),
         b'B' => put_word(out, at, b"false;true", b as usize),
         b'Y' => put_word(out, at, b"void;int;bool", a_at(part, i) as usize),
         _ => put(out, at, &[code]),

@@ -1,6 +1,9 @@
 // The entry points that only read lent memory: the memory check and look-up.
 use check_file::Answer;
+use check_file::Refusal;
 use state_words::Value;
+use state_words::layout::IMAGE_WORDS;
+use state_words::layout::TAG_RUNNING;
 ghost use mathlib.Core.Path.{_≡_};
 ghost use mathlib.Core.Bool.{true};
 ghost use Prim.Native.Nat.{_≤_};
@@ -11,6 +14,7 @@ ghost use Rattle.spec_machine.specs.Run.{lookUp};
 ghost use Rattle.spec_machine.specs.File.{programOf};
 ghost use Rattle.spec_image.specs.Decode.{stateOf};
 ghost use Rattle.spec_image.specs.Memory.{fitWords};
+ghost use Rattle.spec_image.specs.Sizes.{size};
 ghost use Rattle.state_words.specs.Meaning.{valueIs};
 ghost use Rattle.fit_state.specs.HoldsState.{HoldsState};
 ghost use Rattle.spec_answers.specs.Answers.{memoryAnswer, granted, isPresent, valueOr, lookAnswer};
@@ -21,16 +25,12 @@ pub enum Look {
     Nothing,
     Int(i32),
     Truth(bool),
-    Refused {
-        question: u8,
-        place: usize,
-        item: u32,
-    },
+    Refused(Refusal),
 }
 
 // Whether the first 16,384 words hold the image of a state that is fit for the file's program.
 fn holds_fit(file: &[u8], m: &[u32]) -> bool
-    requires { ⌜ (checkOf (now file) ≡ accepted) × (16384 ≤ length (now m)) ⌝ }
+    requires { ⌜ (checkOf (now file) ≡ accepted) × (size ≤ length (now m)) ⌝ }
     ensures { λ r. ⌜ r ≡ fitWords (programOf (now (file .entry))) (now (m .entry)) ⌝ }
 {
     if !fit_image::holds_image(m) {
@@ -44,40 +44,32 @@ pub fn check_memory(file: &[u8], m: &[u32]) -> Answer
     ensures answer { λ r. ⌜ says r ≡ memoryAnswer (now (file .entry)) (now (m .entry)) ⌝ }
     ensures small { λ r. ⌜ Small r ⌝ }
 {
-    if let Answer::Refused {
-        question,
-        place,
-        item,
-    } = check_file::check(file) {
-        return Answer::Refused {
-            question,
-            place,
-            item,
-        };
+    if let Answer::Refused(refusal) = check_file::check(file) {
+        return Answer::Refused(refusal);
     }
-    if m.len() < 16384 {
-        return Answer::Refused {
+    if m.len() < IMAGE_WORDS {
+        return Answer::Refused(Refusal {
             question: 15,
             place: 0,
             item: 0,
-        };
+        });
     }
     if !holds_fit(file, m) {
-        return Answer::Refused {
+        return Answer::Refused(Refusal {
             question: 16,
             place: 0,
             item: 0,
-        };
+        });
     }
     Answer::Accepted
 }
 
 // Whether the current activation of the state in the memory has variable x.
 fn has_variable(m: &[u32], x: u32) -> bool
-    requires { ⌜ (16384 ≤ length (now m)) × HoldsState (now m) ⌝ }
+    requires { ⌜ (size ≤ length (now m)) × HoldsState (now m) ⌝ }
     ensures { λ r. ⌜ r ≡ isPresent (lookUp (stateOf (now (m .entry))) x) ⌝ }
 {
-    if m[0] != 2 {
+    if m[0] != TAG_RUNNING {
         return false;
     }
     let a = m[2] as usize - 1;
@@ -86,7 +78,7 @@ fn has_variable(m: &[u32], x: u32) -> bool
 
 // What the current activation's variable x holds.
 fn value_in(m: &[u32], x: u32) -> Value
-    requires { ⌜ (16384 ≤ length (now m)) × HoldsState (now m) × (isPresent (lookUp (stateOf (now m)) x) ≡ true) ⌝ }
+    requires { ⌜ (size ≤ length (now m)) × HoldsState (now m) × (isPresent (lookUp (stateOf (now m)) x) ≡ true) ⌝ }
     ensures { λ r. ⌜ valueIs r ≡ valueOr (lookUp (stateOf (now (m .entry))) x) ⌝ }
 {
     let a = m[2] as usize - 1;
@@ -113,23 +105,15 @@ pub fn look_up(file: &[u8], m: &[u32], x: u32) -> Look
     ensures answer { λ r. ⌜ r ≡ lookOf (lookAnswer (now (file .entry)) (now (m .entry)) x) ⌝ }
     ensures small { λ r. ⌜ SmallLook r ⌝ }
 {
-    if let Answer::Refused {
-        question,
-        place,
-        item,
-    } = check_memory(file, m) {
-        return Look::Refused {
-            question,
-            place,
-            item,
-        };
+    if let Answer::Refused(refusal) = check_memory(file, m) {
+        return Look::Refused(refusal);
     }
     if !has_variable(m, x) {
-        return Look::Refused {
+        return Look::Refused(Refusal {
             question: 17,
             place: 0,
             item: 0,
-        };
+        });
     }
     look_of(value_in(m, x))
 }

@@ -5,6 +5,7 @@ use Prim.Native.Nat.{ℕ, _+_, _≤_}
 use native.Mathlib.Omega.{arith}
 use lib.ListN.{length, drop}
 use Rattle.spec_language.specs.Check.{accepted, refused}
+use Rattle.check_file.specs.declared.Refusal.{Refusal}
 use Rattle.spec_machine.specs.Machine.{State}
 use Rattle.spec_machine.specs.Run.{runOf}
 use Rattle.spec_machine.specs.Fit.{Fit}
@@ -22,9 +23,9 @@ use Rattle.entry_run.specs.declared.Reply.the-variants.{Ended, Refused}
 use Rattle.entry_run.specs.Replies.{replyOf}
 
 module _ (s m : List ℕ) (a : ℕ) where
-  pub run-refused : (q p i : ℕ) → memoryAnswer s m ≡ refused q p i → (Refused q p i ≡ replyOf (runAnswer s m a)) × (m ≡ runMemory s m a)
+  pub run-refused : (r : Refusal) → memoryAnswer s m ≡ refused (r .question) (r .place) (r .item) → (Refused r ≡ replyOf (runAnswer s m a)) × (m ≡ runMemory s m a)
   unfolding runAnswer runMemory byVerdict written replyOf
-  run-refused q p i e = (rw e, rw e)
+  run-refused r e = (rw e, rw e)
 
   module _ (e : memoryAnswer s m ≡ accepted) where
     -- the memory holds a fit state
@@ -34,7 +35,7 @@ module _ (s m : List ℕ) (a : ℕ) where
         let h = holds-fit (programOf s) m (q .2) in
         record { passed = q .0; state = stateOf m; rest = drop size m; held = held-whole m (stateOf m) (h .0); fit = h .1 }
 
-    pub run-room : 16384 ≤ length m
+    pub run-room : size ≤ length m
     run-room = memory-so s m e .1
 
     pub run-accepted : (r : Ran) (l : List ℕ)

@@ -1,5 +1,8 @@
 // The entry point that starts a procedure in a memory.
 use check_file::Answer;
+use check_file::Refusal;
+use state_words::layout::IMAGE_WORDS;
+use state_words::layout::TAG_MAIN;
 ghost use mathlib.Core.Path.{_≡_};
 ghost use Rattle.check_file.specs.Answers.{says, Small};
 ghost use Rattle.spec_image.specs.Image.{image};
@@ -16,7 +19,7 @@ fn write_start(m: &mut [u32], n: usize)
     ensures { λ _. ⌜ now (m .exit) ≡ image (main emptyEnv) ++ drop size (now (m .entry)) ⌝ }
 {
     words::zero_at(m, 0, n);
-    m[0] = 1;
+    m[0] = TAG_MAIN;
 }
 
 // Starts a procedure: questions 1 to 15, and where all pass, main() with nothing waiting in the memory.
@@ -25,24 +28,16 @@ pub fn start(file: &[u8], m: &mut [u32]) -> Answer
     ensures memory { λ r. ⌜ now (m .exit) ≡ startMemory (now (file .entry)) (now (m .entry)) ⌝ }
     ensures small { λ r. ⌜ Small r ⌝ }
 {
-    if let Answer::Refused {
-        question,
-        place,
-        item,
-    } = check_file::check(file) {
-        return Answer::Refused {
-            question,
-            place,
-            item,
-        };
+    if let Answer::Refused(refusal) = check_file::check(file) {
+        return Answer::Refused(refusal);
     }
-    if m.len() < 16384 {
-        return Answer::Refused {
+    if m.len() < IMAGE_WORDS {
+        return Answer::Refused(Refusal {
             question: 15,
             place: 0,
             item: 0,
-        };
+        });
     }
-    write_start(m, 16384);
+    write_start(m, IMAGE_WORDS);
     Answer::Accepted
 }

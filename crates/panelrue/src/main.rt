@@ -1,40 +1,21 @@
 // Runs the procedure on standard input for 10,000 steps in a memory of its own, and prints one line: the outcome, or the refusal.
 use check_file::Answer;
 use entry_run::Reply;
+use records::format::KEPT_BYTES;
 use run_loop::Outcome;
 use run_loop::Ran;
+use state_words::layout::IMAGE_WORDS;
 use texts::put;
-use texts::put_decimal;
+use texts::put_int;
 use texts::put_numbered;
 use texts::put_refusal;
-ghost use mathlib.Core.Path.{_≡_};
-ghost use lib.IntN.{natAbs};
-
-// How far an int is from zero.
-fn magnitude(v: i32) -> u64
-    ensures { λ r. ⌜ r ≡ natAbs v ⌝ }
-{
-    if 0 <= v {
-        v as u64
-    } else {
-        (0 - v as i64) as u64
-    }
-}
-
-// Puts an int with its sign.
-fn put_int(out: &mut [u8], at: usize, v: i32) -> usize {
-    if v < 0 {
-        return put_numbered(out, at, b"-", magnitude(v));
-    }
-    put_decimal(out, at, magnitude(v))
-}
 
 // Puts an outcome, and its int if it is a value.
 fn put_outcome(out: &mut [u8], outcome: Outcome) -> usize {
     match outcome {
         Outcome::Value(v) => {
             let at = put(out, 0, b"value ");
-            put_int(out, at, v)
+            put_int(out, at, arith::bits(v))
         }
         Outcome::Arith => put(out, 0, b"arith"),
         Outcome::Abort => put(out, 0, b"abort"),
@@ -53,26 +34,18 @@ fn put_end(out: &mut [u8], ran: Ran) -> usize {
 
 // Starts a file's procedure, runs it and puts the answer.
 fn put_run(file: &[u8], out: &mut [u8]) -> usize {
-    let mut memory = [0u32; 16384];
-    if let Answer::Refused {
-        question,
-        place,
-        item,
-    } = entry_start::start(file, &mut memory) {
-        return put_refusal(out, 0, question, place, item);
+    let mut memory = [0u32; IMAGE_WORDS];
+    if let Answer::Refused(r) = entry_start::start(file, &mut memory) {
+        return put_refusal(out, 0, r.question, r.place, r.item);
     }
     match entry_run::run(file, &mut memory, 10000) {
         Reply::Ended(ran) => put_end(out, ran),
-        Reply::Refused {
-            question,
-            place,
-            item,
-        } => put_refusal(out, 0, question, place, item),
+        Reply::Refused(r) => put_refusal(out, 0, r.question, r.place, r.item),
     }
 }
 
 fn main() {
-    let mut buffer = [0u8; 50701];
+    let mut buffer = [0u8; KEPT_BYTES];
     let n = io::read_full(0, &mut buffer);
     let mut line = [0u8; 64];
     let k = put_run(&buffer[..n], &mut line);

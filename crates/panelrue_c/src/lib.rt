@@ -1,14 +1,14 @@
 // The entry points for a host in C or Rust, on numbers and slices.
 use check_file::Answer;
+use check_file::Refusal;
 use entry_memory::Look;
 use entry_run::Reply;
 use run_loop::Outcome;
 use run_loop::Ran;
 ghost use mathlib.Core.Path.{_≡_};
 ghost use mathlib.Core.List.{[], _∷_};
-ghost use Prim.Native.Nat.{_+_, _*_, _<_};
 ghost use Rattle.spec_language.specs.Check.{checkOf};
-ghost use Rattle.check_file.specs.Answers.{says, Small};
+ghost use Rattle.check_file.specs.Answers.{says, SmallRefusal, Small};
 ghost use Rattle.spec_answers.specs.Answers.{startAnswer, startMemory, memoryAnswer, runAnswer, runMemory, lookAnswer};
 ghost use Rattle.entry_run.specs.Replies.{replyOf};
 ghost use Rattle.entry_memory.specs.Looks.{lookOf};
@@ -16,17 +16,17 @@ ghost use Rattle.words.specs.Blocks.{puts};
 ghost use Rattle.varset.specs.Lowest.{pick};
 ghost use lib.Dec.{leb};
 ghost use lib.ListN.{length};
-ghost use Rattle.panelrue_c.specs.Packed.{packed};
-ghost use Rattle.panelrue_c.specs.HostAnswers.{outcomeNumber, outcomeWord, runNumber, runWords, bitOf, lookNumber, lookWords};
+ghost use Rattle.panelrue_c.specs.Packed.{packedRefusal, packed};
+ghost use Rattle.panelrue_c.specs.HostAnswers.{outcomeNumber, outcomeWord, runNumber, runWords, lookNumber, lookWords};
 
-// A byte, an item and a place as wider numbers.
-fn pack(question: u8, place: usize, item: u32) -> u64
-    requires { ⌜ (place < 4225) × (item < 64) ⌝ }
-    ensures { λ r. ⌜ r ≡ question + 256 * item + 65536 * place ⌝ }
+// The number of a refusal.
+fn pack(refusal: Refusal) -> u64
+    requires { ⌜ SmallRefusal refusal ⌝ }
+    ensures { λ r. ⌜ r ≡ packedRefusal refusal ⌝ }
 {
-    let a = question as u64;
-    let b = item as u64;
-    let c = place as u64;
+    let a = refusal.question as u64;
+    let b = refusal.item as u64;
+    let c = refusal.place as u64;
     a + 256 * b + 65536 * c
 }
 
@@ -37,11 +37,7 @@ fn number(answer: Answer) -> u64
 {
     match answer {
         Answer::Accepted => 0,
-        Answer::Refused {
-            question,
-            place,
-            item,
-        } => pack(question, place, item),
+        Answer::Refused(refusal) => pack(refusal),
     }
 }
 
@@ -128,11 +124,7 @@ pub extern "C" fn panelrue_run(
             tell_run(answer, r);
             0
         }
-        Reply::Refused {
-            question,
-            place,
-            item,
-        } => pack(question, place, item),
+        Reply::Refused(refusal) => pack(refusal),
     }
 }
 
@@ -145,13 +137,6 @@ fn tell_look(answer: &mut [u64], kind: u64, word: u64)
     }
     answer[0] = kind;
     answer[1] = word;
-}
-
-// The number of a bool.
-fn bit(truth: bool) -> u64
-    ensures { λ r. ⌜ r ≡ bitOf truth ⌝ }
-{
-    if truth { 1 } else { 0 }
 }
 
 // What variable x of the current activation holds, where 0 is answered; a refusal leaves the answer as it was.
@@ -170,13 +155,9 @@ pub extern "C" fn panelrue_look_up(file: &[u8], memory: &[u32], x: u32, answer: 
             0
         }
         Look::Truth(truth) => {
-            tell_look(answer, 2, bit(truth));
+            tell_look(answer, 2, state_words::bit_of(truth) as u64);
             0
         }
-        Look::Refused {
-            question,
-            place,
-            item,
-        } => pack(question, place, item),
+        Look::Refused(refusal) => pack(refusal),
     }
 }

@@ -1,6 +1,8 @@
 // Checks procedures by name and prints one line for each: passed, refused with the reason, or why it cannot be read; last the counts.
 use check_file::Answer;
+use check_file::Refusal;
 use desk_files::Content;
+use records::format::KEPT_BYTES;
 use std::num::wrapping_add_u64;
 use texts::put;
 use texts::put_numbered;
@@ -35,16 +37,12 @@ fn counted(desk: Desk, at: usize, passed: u64, refused: u64, unread: u64) -> Des
 }
 
 // Puts a refusal with its reason.
-fn put_refusal(
-    file: &[u8],
-    question: u8,
-    place: usize,
-    item: u32,
-    out: &mut [u8],
-    at: usize,
-) -> usize
+fn put_refusal(file: &[u8], refusal: Refusal, out: &mut [u8], at: usize) -> usize
     ensures { λ r. ⌜ r ≤ length (now (out .exit)) ⌝ }
 {
+    let question = refusal.question;
+    let place = refusal.place;
+    let item = refusal.item;
     let a = put_numbered(out, at, b": refused ", question as u64);
     let b = put_numbered(out, a, b" place ", place as u64);
     let c = put_numbered(out, b, b" item ", item as u64);
@@ -54,38 +52,27 @@ fn put_refusal(
 }
 
 // Puts the function that a refusal names where it is to be shown; before question 9 the records may not make a tree.
-fn put_look(
-    show: bool,
-    file: &[u8],
-    question: u8,
-    place: usize,
-    out: &mut [u8],
-    at: usize,
-) -> usize {
+fn put_look(show: bool, file: &[u8], refusal: Refusal, out: &mut [u8], at: usize) -> usize {
     if !show {
         return at;
     }
-    if question < 9 {
+    if refusal.question < 9 {
         return put(
             out,
             at,
             b"    no function is shown: the records of this file do not make one\n",
         );
     }
-    desk_listing::put_listing(file, place, out, at)
+    desk_listing::put_listing(file, refusal.place, out, at)
 }
 
 // Puts the rest of the line of a file that was read, and counts it.
 fn serve_content(file: &[u8], out: &mut [u8], desk: Desk) -> Desk {
     match check_file::check(file) {
         Answer::Accepted => counted(desk, put(out, desk.at, b": passed\n"), 1, 0, 0),
-        Answer::Refused {
-            question,
-            place,
-            item,
-        } => {
-            let a = put_refusal(file, question, place, item, out, desk.at);
-            let b = put_look(desk.show, file, question, place, out, a);
+        Answer::Refused(refusal) => {
+            let a = put_refusal(file, refusal, out, desk.at);
+            let b = put_look(desk.show, file, refusal, out, a);
             counted(desk, b, 0, 1, 0)
         }
     }
@@ -274,7 +261,7 @@ fn is_argument(i: usize, word: &[u8]) -> bool {
 
 fn main() {
     let mut name = [0u8; 4096];
-    let mut file = [0u8; 50701];
+    let mut file = [0u8; KEPT_BYTES];
     let mut out = [0u8; 4096];
     let show = is_argument(1, b"--show");
     let first = if show { 2 } else { 1 };

@@ -61,6 +61,16 @@ pub fn put_numbered(out: &mut [u8], at: usize, text: &[u8], n: u64) -> usize
     put_decimal(out, next, n)
 }
 
+// Puts the int whose 32 bits are given, with its sign.
+pub fn put_int(out: &mut [u8], at: usize, bits: u32) -> usize
+    ensures { λ r. ⌜ r ≤ length (now (out .exit)) ⌝ }
+{
+    if bits < 2147483648 {
+        return put_decimal(out, at, bits as u64);
+    }
+    put_numbered(out, at, b"-", (u32::MAX - bits) as u64 + 1)
+}
+
 // Puts a refusal as a line.
 pub fn put_refusal(out: &mut [u8], at: usize, question: u8, place: usize, item: u32) -> usize
     ensures { λ r. ⌜ r ≤ length (now (out .exit)) ⌝ }

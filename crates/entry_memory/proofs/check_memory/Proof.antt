@@ -9,12 +9,12 @@ use Rattle.entry_memory.proofs.check_memory.Tie as tie
 check-requires : tie.Need-check-requires
 check-requires c κs = search needs
 
-enum-known-question : tie.Need-enum-known-question
-enum-known-question c = search needs
+enum-known-refusal : tie.Need-enum-known-refusal
+enum-known-refusal c = search needs
 
 returns : tie.Need-returns
 unfolding says
-returns c = (memory-early _ _ _ _ _ (sym (c .before .before .before .check .ensures .0) ∙ ap says (c .before .question .given .1)), rw (c .before .question .given .1) at (c .before .before .before .check .ensures .1))
+returns c = (memory-early _ _ _ _ _ (sym (c .before .before .before .check .ensures .0) ∙ ap says (c .before .refusal .given .1)), rw (c .before .refusal .given .1) at (c .before .before .before .check .ensures .1))
 
 enum-told : tie.Need-enum-told
 enum-told c = search needs
@@ -40,7 +40,7 @@ check-memory-spec =
     tie.close
     (tie.spec
     check-requires
-    enum-known-question
+    enum-known-refusal
     returns
     enum-told
     returns-2

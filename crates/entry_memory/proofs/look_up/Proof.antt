@@ -10,12 +10,12 @@ use Rattle.entry_memory.proofs.look_up.Tie as tie
 check-memory-requires : tie.Need-check-memory-requires
 check-memory-requires c κs = search needs
 
-enum-known-question : tie.Need-enum-known-question
-enum-known-question c = search needs
+enum-known-refusal : tie.Need-enum-known-refusal
+enum-known-refusal c = search needs
 
 returns : tie.Need-returns
 unfolding says lookOf
-returns c = (rw (look-early _ _ _ _ _ _ (sym (c .before .before .before .check-memory .ensures .0) ∙ ap says (c .before .question .given .1))), rw (c .before .question .given .1) at (c .before .before .before .check-memory .ensures .1))
+returns c = (rw (look-early _ _ _ _ _ _ (sym (c .before .before .before .check-memory .ensures .0) ∙ ap says (c .before .refusal .given .1))), rw (c .before .refusal .given .1) at (c .before .before .before .check-memory .ensures .1))
 
 enum-told : tie.Need-enum-told
 enum-told c = search needs
@@ -44,7 +44,7 @@ look-up-spec =
     tie.close
     (tie.spec
     check-memory-requires
-    enum-known-question
+    enum-known-refusal
     returns
     enum-told
     has-variable-requires

@@ -8,8 +8,8 @@ use Rattle.entry_run.proofs.run.Tie as tie
 check-memory-requires : tie.Need-check-memory-requires
 check-memory-requires c κs = search needs
 
-enum-known-question : tie.Need-enum-known-question
-enum-known-question c = search needs
+enum-known-refusal : tie.Need-enum-known-refusal
+enum-known-refusal c = search needs
 
 same-length : tie.Need-same-length
 same-length c = search needs
@@ -17,8 +17,8 @@ same-length c = search needs
 returns : tie.Need-returns
 unfolding says
 returns c =
-    let q = run-refused _ _ _ _ _ _ (sym (c .before .before .before .check-memory .ensures .0) ∙ ap says (c .before .question .given .1)) in
-    (q .0, (rw (c .before .question .given .1) at (c .before .before .before .check-memory .ensures .1), q .1))
+    let q = run-refused _ _ _ _ (sym (c .before .before .before .check-memory .ensures .0) ∙ ap says (c .before .refusal .given .1)) in
+    (q .0, (rw (c .before .refusal .given .1) at (c .before .before .before .check-memory .ensures .1), q .1))
 
 enum-told : tie.Need-enum-told
 enum-told c = search needs
@@ -41,7 +41,7 @@ run-spec =
     tie.close
     (tie.spec
     check-memory-requires
-    enum-known-question
+    enum-known-refusal
     same-length
     returns
     enum-told

@@ -30,17 +30,20 @@ tell-look-requires-2 c κs = search needs
 enum-known-truth : tie.Need-enum-known-truth
 enum-known-truth c = search needs
 
-bit-requires : tie.Need-bit-requires
-bit-requires c κs = search needs
+bit-of-requires : tie.Need-bit-of-requires
+bit-of-requires c κs = search needs
+
+cast-tell-look-2 : tie.Need-cast-tell-look-2
+cast-tell-look-2 c = search needs
 
 tell-look-requires-3 : tie.Need-tell-look-requires-3
 tell-look-requires-3 c κs = search needs
 
-enum-known-question : tie.Need-enum-known-question
-enum-known-question c = search needs
+enum-known-refusal : tie.Need-enum-known-refusal
+enum-known-refusal c = search needs
 
 pack-requires : tie.Need-pack-requires
-pack-requires c κs = rw (c .before .question .given .1) at (c .before .before .before .look-up .ensures .1)
+pack-requires c κs = rw (c .before .refusal .given .1) at (c .before .before .before .look-up .ensures .1)
 
 same-length : tie.Need-same-length
 same-length c = search needs
@@ -67,12 +70,12 @@ returns-3 : tie.Need-returns-3
 unfolding lookNumber lookWords
 returns-3 c =
     let e = sym (c .before .before .before .before .before .before .before .before .look-up .ensures .0) ∙ c .before .before .before .before .before .before .truth .given .1 in
-    (rw e, rw (e, ← (c .before .before .before .bit .ensures)) (c .before .before .tell-look3 .ensures))
+    (rw e, rw (e, ← (c .before .before .before .bit-of .ensures)) (c .before .before .tell-look3 .ensures))
 
 returns-4 : tie.Need-returns-4
 unfolding lookNumber lookWords
 returns-4 c =
-    let e = sym (c .before .before .before .before .look-up .ensures .0) ∙ c .before .before .question .given .1 in
+    let e = sym (c .before .before .before .before .look-up .ensures .0) ∙ c .before .before .refusal .given .1 in
     (rw e (c .pack .ensures), rw e)
 
 pub panelrue-look-up-spec : {M : Type 1} → statement M
@@ -87,9 +90,10 @@ panelrue-look-up-spec =
     cast-tell-look
     tell-look-requires-2
     enum-known-truth
-    bit-requires
+    bit-of-requires
+    cast-tell-look-2
     tell-look-requires-3
-    enum-known-question
+    enum-known-refusal
     pack-requires
     same-length
     returns

@@ -13,11 +13,11 @@ enum-known-r c = search needs
 tell-run-requires : tie.Need-tell-run-requires
 tell-run-requires c κs = search needs
 
-enum-known-question : tie.Need-enum-known-question
-enum-known-question c = search needs
+enum-known-refusal : tie.Need-enum-known-refusal
+enum-known-refusal c = search needs
 
 pack-requires : tie.Need-pack-requires
-pack-requires c κs = rw (c .before .question .given .1) at (c .before .before .before .before .before .run .ensures .1 .0)
+pack-requires c κs = rw (c .before .refusal .given .1) at (c .before .before .before .before .before .run .ensures .1 .0)
 
 same-length : tie.Need-same-length
 same-length c = search needs
@@ -37,7 +37,7 @@ same-length-3 c = search needs
 returns-2 : tie.Need-returns-2
 unfolding runNumber runWords
 returns-2 c =
-    let e = sym (c .before .before .before .before .before .before .run .ensures .0) ∙ c .before .before .question .given .1 in
+    let e = sym (c .before .before .before .before .before .before .run .ensures .0) ∙ c .before .before .refusal .given .1 in
     (rw e (c .pack .ensures), (c .before .before .before .before .before .before .run .ensures .1 .1, rw e))
 
 pub panelrue-run-spec : {M : Type 1} → statement M
@@ -47,7 +47,7 @@ panelrue-run-spec =
     run-requires
     enum-known-r
     tell-run-requires
-    enum-known-question
+    enum-known-refusal
     pack-requires
     same-length
     same-length-2
