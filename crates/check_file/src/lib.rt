@@ -11,7 +11,7 @@ ghost use mathlib.Core.Bool.{true, _||_};
 ghost use Prim.Native.Nat.{ℕ, _+_, _*_, _-_, _≤_, _<_};
 ghost use lib.Dec.{eqb};
 ghost use lib.ListN.{length, getD};
-ghost use Rattle.records.specs.Format.{mostFunctions, mostNodes, mostVariables};
+ghost use Rattle.records.specs.Format.{mostFunctions, mostNodes, mostVariables, mostRecords, longestFile};
 ghost use Rattle.varset.specs.Lowest.{pick};
 ghost use Rattle.records.specs.Fields.{functions};
 ghost use Rattle.records.specs.Parts.{Laid};
@@ -71,10 +71,10 @@ fn origin(q: u8, f: usize, start: usize) -> usize
 
 // What fails question q, from 7 to 14, in the first function where anything does.
 fn first_in_parts(file: &[u8], q: u8) -> Found
-    requires laid { ⌜ Laid (now file) × (length (now file) ≤ 50700) × (7 ≤ q) ⌝ }
+    requires laid { ⌜ Laid (now file) × (length (now file) ≤ longestFile) × (7 ≤ q) ⌝ }
     requires known { ⌜ Ready (now file) q ⌝ }
     ensures exact { λ r. ⌜ r ≡ firstIn (inPart q (now (file .entry))) (functions (now (file .entry))) 0 ⌝ }
-    ensures small { λ r. ⌜ ((i x : ℕ) → r ≡ Found.At i x → (i < 4225) × (x < mostVariables)) ⌝ }
+    ensures small { λ r. ⌜ ((i x : ℕ) → r ≡ Found.At i x → (i < mostRecords) × (x < mostVariables)) ⌝ }
 {
     let functions = function_count(file);
     let mut f = 0;
@@ -119,7 +119,7 @@ fn parts_pass(file: &[u8], codes: &mut [u8], reads: &mut [u64], sets: &mut [u64]
 
 // The same, with working arrays that have room for the nodes; every node's type is unset at first.
 fn file_passes(file: &[u8]) -> bool
-    requires { ⌜ Laid (now file) × (length (now file) ≤ 50700) ⌝ }
+    requires { ⌜ Laid (now file) × (length (now file) ≤ longestFile) ⌝ }
     ensures { λ r. ⌜ (r ≡ true → firstRefusal (partQuestions (now (file .entry)) 8 7) ≡ accepted) ⌝ }
 {
     if file.len() <= 3072 {
@@ -142,7 +142,7 @@ fn file_passes(file: &[u8]) -> bool
 
 // Questions 7 to 14.
 fn check_parts(file: &[u8]) -> Answer
-    requires { ⌜ Laid (now file) × (length (now file) ≤ 50700) ⌝ }
+    requires { ⌜ Laid (now file) × (length (now file) ≤ longestFile) ⌝ }
     ensures exact { λ r. ⌜ says r ≡ firstRefusal (partQuestions (now (file .entry)) 8 7) ⌝ }
     ensures small { λ r. ⌜ Small r ⌝ }
 {

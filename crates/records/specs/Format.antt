@@ -1,4 +1,4 @@
--- The numbers of document 01's file: marks, and the most functions, nodes, parameters and variables.
+-- The numbers of document 01's file: marks, the most functions, nodes, parameters and variables, and the longest file.
 use Prim.Native.Nat.{ℕ}
 
 -- "PR", "FN" and "ND" as numbers of two bytes
@@ -24,3 +24,10 @@ mostParameters = 8
 
 abbrev pub mostVariables : ℕ
 mostVariables = 64
+
+-- the records of the longest file, its header among them, and its bytes
+abbrev pub mostRecords : ℕ
+mostRecords = 4225
+
+abbrev pub longestFile : ℕ
+longestFile = 50700
