@@ -2,9 +2,9 @@
 
 use crate::grouped;
 use crate::timing::{checks, medians};
-use files::rng::Rng;
-use files::tree::{int, main, ret};
-use files::{lively, shapes, File};
+use generators::rng::Rng;
+use generators::tree::{int, main, ret};
+use generators::{lively, shapes, File};
 
 /// The first random program of four functions or more and close to 200 nodes.
 pub fn typical() -> File {

@@ -9,7 +9,7 @@ mod steps;
 
 use crate::grouped;
 use crate::timing::{ask, checks, medians_of_all, Call};
-use files::File;
+use generators::File;
 use reference::image::{ACTIVATION, ACTIVATIONS, FRAMES, WORDS};
 use std::hint::black_box;
 use tests::machine::{entries, Entries};

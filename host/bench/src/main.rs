@@ -6,7 +6,7 @@ mod cases;
 mod machine;
 mod timing;
 
-use files::{late, shapes};
+use generators::{late, shapes};
 use timing::{ask, checks, judged, medians_of_all, Call};
 
 /// The numbers of nodes timed.

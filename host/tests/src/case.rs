@@ -1,7 +1,7 @@
 //! Named files with their expected answers.
 
 use crate::Answer;
-use files::File;
+use generators::File;
 
 /// A file with its expected answer.
 pub struct Case {

@@ -2,8 +2,8 @@
 
 use crate::report::Outcome;
 use crate::{Answer, Side};
-use files::rng::Rng;
-use files::{aimed, noise, valid, File, Names};
+use generators::rng::Rng;
+use generators::{aimed, noise, valid, File, Names};
 
 /// The kinds of random file.
 pub const KINDS: [&str; 24] = [

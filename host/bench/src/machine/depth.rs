@@ -1,8 +1,8 @@
 //! The time of a step of one loop, by the frames and the callers under it.
 
 use super::{fine, held, Sides};
-use files::depth::{deep, TURNS};
-use files::tree::Stmt;
+use generators::depth::{deep, TURNS};
+use generators::tree::Stmt;
 
 /// The callers and the seqs around the loop of each row.
 const DEPTHS: [(usize, usize); 8] =

@@ -2,9 +2,9 @@
 
 use super::{cells, held, nodes, Sides};
 use crate::grouped;
-use files::depth::{deep, long_loop, nested_whiles, waiting, TURNS};
-use files::shapes::calls;
-use files::File;
+use generators::depth::{deep, long_loop, nested_whiles, waiting, TURNS};
+use generators::shapes::calls;
+use generators::File;
 use reference::image::encode_into;
 use reference::machine::program::{Node, Program, Stmt};
 use reference::machine::{Activation, Control, Frame, Ref, Running, State, Value};

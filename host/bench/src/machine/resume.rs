@@ -2,8 +2,8 @@
 
 use super::{cells, nodes, Sides};
 use crate::{cases, grouped};
-use files::depth::long_loop;
-use files::{shapes, File};
+use generators::depth::long_loop;
+use generators::{shapes, File};
 
 /// The allowances of a call.
 const ALLOWANCES: [u64; 5] = [0, 1, 10, 100, 1_000];

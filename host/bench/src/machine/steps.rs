@@ -1,7 +1,7 @@
 //! The time of a step, by the mix of rules.
 
 use super::{fine, Sides};
-use files::endless;
+use generators::endless;
 use reference::machine::Outcome;
 
 /// The steps of a timed run.

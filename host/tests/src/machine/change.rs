@@ -1,6 +1,6 @@
 //! Changes of one and of two words of an image.
 
-use files::rng::Rng;
+use generators::rng::Rng;
 use reference::image::{ACTIVATION, ACTIVATIONS, ACTIVATION_HEAD, FRAME, FRAMES, WORDS};
 
 /// A word that is likely to matter in an image.

@@ -3,8 +3,8 @@
 use super::trial::{Model, Trial};
 use super::{worked, Entries};
 use crate::report::Outcome;
-use files::lively;
-use files::rng::Rng;
+use generators::lively;
+use generators::rng::Rng;
 use reference::machine::Outcome as End;
 
 /// The lengths of the pieces.

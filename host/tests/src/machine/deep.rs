@@ -3,7 +3,7 @@
 use super::trial::{Model, Trial};
 use super::Entries;
 use crate::report::Outcome;
-use files::shapes;
+use generators::shapes;
 
 /// The stack that the entry points get.
 const SMALL_STACK: usize = 1 << 20;

@@ -3,8 +3,8 @@
 use super::trial::{Model, Trial};
 use super::Entries;
 use crate::report::Outcome;
-use files::tree::*;
-use files::File;
+use generators::tree::*;
+use generators::File;
 use reference::image::{encode_into, WORDS};
 use reference::machine::{Activation, Control, Frame, Ref, Running, State, Value};
 

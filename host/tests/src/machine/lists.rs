@@ -5,8 +5,8 @@ use super::trial::{Model, Trial};
 use super::Entries;
 use crate::report::Outcome;
 use crate::Answer;
-use files::rng::Rng;
-use files::{aimed, lively, noise, File};
+use generators::rng::Rng;
+use generators::{aimed, lively, noise, File};
 use reference::image::WORDS;
 use reference::machine::State;
 

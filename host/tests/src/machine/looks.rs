@@ -3,10 +3,10 @@
 use super::trial::{Model, Trial};
 use super::{worked, Entries};
 use crate::report::Outcome;
-use files::lively;
-use files::rng::Rng;
-use files::tree::*;
-use files::File;
+use generators::lively;
+use generators::rng::Rng;
+use generators::tree::*;
+use generators::File;
 use reference::machine::{Outcome as End, State};
 
 /// The longest run that is looked into.

@@ -3,8 +3,8 @@
 use super::trial::{Model, Trial};
 use super::Entries;
 use crate::report::Outcome;
-use files::rng::Rng;
-use files::{lively, valid, Names};
+use generators::rng::Rng;
+use generators::{lively, valid, Names};
 use reference::machine::run::{attempt, Attempt};
 use reference::machine::step::RULES;
 use reference::machine::{Outcome as End, State};

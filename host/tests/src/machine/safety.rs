@@ -3,8 +3,8 @@
 use super::states::States;
 use super::trial::Model;
 use crate::report::Outcome;
-use files::lively;
-use files::rng::Rng;
+use generators::lively;
+use generators::rng::Rng;
 use reference::machine::run::{attempt, Attempt};
 use reference::machine::{Control, Rule, State, Value};
 

@@ -1,6 +1,6 @@
 //! Memories of random words.
 
-use files::rng::Rng;
+use generators::rng::Rng;
 use reference::image::{ACTIVATION, ACTIVATIONS, ACTIVATION_HEAD, FRAME, FRAMES, WORDS};
 use reference::machine::Program;
 

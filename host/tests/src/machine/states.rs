@@ -1,6 +1,6 @@
 //! Random states, most of them fit and reached by no run.
 
-use files::rng::Rng;
+use generators::rng::Rng;
 use reference::machine::program::{Expr, Function, Node, Program, Stmt};
 use reference::machine::{Activation, Control, Frame, Ref, Running, State, Type, Value};
 

@@ -3,7 +3,7 @@
 use super::Entries;
 use crate::report::{shown, Outcome};
 use crate::Answer;
-use files::File;
+use generators::File;
 use reference::fit::Judge;
 use reference::image::{encode_into, WORDS};
 use reference::machine::{look_up, run, Outcome as End, Program, State};

@@ -1,7 +1,7 @@
 //! Programs with their outcomes and steps, counted by hand from the rules.
 
-use files::tree::*;
-use files::{shapes, File};
+use generators::tree::*;
+use generators::{shapes, File};
 use reference::machine::Outcome::{self, Abort, Arith, Full, Spent, Value};
 use reference::Refusal;
 

@@ -1,7 +1,7 @@
 //! The file that most worked files are spoilt from.
 
-use files::tree::*;
-use files::File;
+use generators::tree::*;
+use generators::File;
 
 /// Three functions, seven nodes: main `return f1(1)` (nodes 0 to 2, places 4 to 6), f1 of an int
 /// `return x0` (nodes 3 and 4, places 7 and 8), f2 of nothing `return true` (nodes 5 and 6,

@@ -1,10 +1,10 @@
 //! Trees nested as deep as they can be.
 
 use crate::case::Group;
-use files::record::NodeRecord;
-use files::shapes;
-use files::tree::*;
-use files::File;
+use generators::record::NodeRecord;
+use generators::shapes;
+use generators::tree::*;
+use generators::File;
 
 /// Every regular shape at the greatest size, and some others.
 pub fn accepted() -> Group {

@@ -2,8 +2,8 @@
 
 use super::base::two;
 use crate::case::Group;
-use files::tree::*;
-use files::File;
+use generators::tree::*;
+use generators::File;
 
 /// main with an int x0 over a statement and `return x0`.
 fn then_read(statement: Stmt) -> File {

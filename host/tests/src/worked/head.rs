@@ -2,8 +2,8 @@
 
 use super::base::three;
 use crate::case::Group;
-use files::record::{FunctionRecord, NodeRecord};
-use files::File;
+use generators::record::{FunctionRecord, NodeRecord};
+use generators::File;
 
 /// The bytes of the base file cut or filled to a length.
 fn resized(length: usize) -> Vec<u8> {

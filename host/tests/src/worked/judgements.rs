@@ -2,7 +2,7 @@
 
 use super::base::{before_return, procedure, two};
 use crate::case::Group;
-use files::tree::*;
+use generators::tree::*;
 
 /// All these examples.
 pub fn group() -> Group {

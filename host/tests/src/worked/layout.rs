@@ -2,10 +2,10 @@
 
 use super::base::{before_return, three, two};
 use crate::case::Group;
-use files::record::NodeRecord;
-use files::shapes;
-use files::tree::*;
-use files::File;
+use generators::record::NodeRecord;
+use generators::shapes;
+use generators::tree::*;
+use generators::File;
 
 /// The bytes of `return 0` written out.
 const RETURN_0: [u8; 48] = [

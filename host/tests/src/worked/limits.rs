@@ -2,10 +2,10 @@
 
 use super::base::two;
 use crate::case::Group;
-use files::record::NodeRecord;
-use files::shapes;
-use files::tree::*;
-use files::File;
+use generators::record::NodeRecord;
+use generators::shapes;
+use generators::tree::*;
+use generators::File;
 
 /// Lengths of zero bytes and of cut and extended files.
 pub fn lengths() -> Group {

@@ -2,9 +2,9 @@
 
 use super::base::three;
 use crate::case::Group;
-use files::record::NodeRecord;
-use files::tree::*;
-use files::File;
+use generators::record::NodeRecord;
+use generators::tree::*;
+use generators::File;
 
 /// The wrong values of a and b for each kind in a function with p 1 and v 3, of three functions
 /// of 0, 1 and 0 parameters.

@@ -1,7 +1,7 @@
 //! Question 14: bodies that return.
 
 use crate::case::Group;
-use files::tree::*;
+use generators::tree::*;
 
 /// A return.
 fn out() -> Stmt {

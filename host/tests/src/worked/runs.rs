@@ -1,7 +1,7 @@
 //! The rows of the paper's table of runs.
 
 use crate::case::Group;
-use files::tree::*;
+use generators::tree::*;
 
 /// The rows, accepted and refused.
 pub fn group() -> Group {

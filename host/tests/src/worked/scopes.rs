@@ -2,8 +2,8 @@
 
 use super::base::{before_return, two};
 use crate::case::Group;
-use files::tree::*;
-use files::File;
+use generators::tree::*;
+use generators::File;
 
 /// Three functions of which one has a variable too many.
 fn lacking(at: usize) -> File {

@@ -2,9 +2,9 @@
 
 use super::base::{three, two};
 use crate::case::Group;
-use files::record::NodeRecord;
-use files::tree::*;
-use files::File;
+use generators::record::NodeRecord;
+use generators::tree::*;
+use generators::File;
 
 /// Puts a nop of size 1 before a part's first node and counts it.
 fn loose_nop(function: usize) -> File {

@@ -2,7 +2,7 @@
 
 use super::base::{before_return, two};
 use crate::case::Group;
-use files::tree::*;
+use generators::tree::*;
 
 /// A statement where an expression belongs.
 fn hole() -> Expr {

@@ -2,7 +2,7 @@
 
 use super::base::{before_return, procedure, two};
 use crate::case::Group;
-use files::tree::*;
+use generators::tree::*;
 
 /// Question 12 of every node that wants a type.
 pub fn question_12() -> Group {

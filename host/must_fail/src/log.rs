@@ -110,7 +110,7 @@ mod tests {
 
     /// A crate's folder with one file of proofs, whose third line is the clause of `keep` for a rule.
     fn folder(name: &str) -> PathBuf {
-        let path = std::env::temp_dir().join(format!("refusals-{name}-{}", std::process::id()));
+        let path = std::env::temp_dir().join(format!("must-fail-{name}-{}", std::process::id()));
         fs::create_dir_all(path.join("proofs")).expect("the folder is made");
         fs::write(path.join("proofs/Keep.antt"), "-- laws\nkeep : Fact\nkeep and-false = tt\n")
             .expect("the file is written");

@@ -1,4 +1,4 @@
-//! Procedure files built from trees, drawn at random, and spoilt.
+//! Generators of procedure files: built from trees, drawn at random, and spoilt.
 
 pub mod aimed;
 pub mod depth;

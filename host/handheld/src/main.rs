@@ -1,4 +1,4 @@
-//! Runs a procedure from a file 100 steps at a time.
+//! The sample host in Rust, `handheld FILE`: runs a procedure from a file 100 steps at a time, with the memory in its own process.
 
 #[cfg(feature = "proved")]
 mod host {
