@@ -1,4 +1,5 @@
 // What a statement reads and sets, from what its parts do: questions 13 and 14 without a walk over the whole body.
+use records::format::TYPE_UNSET;
 use records::nodes::b_at;
 use records::nodes::kind_at;
 use varset::VarSet;
@@ -8,6 +9,8 @@ ghost use mathlib.Core.List.{List};
 ghost use mathlib.Core.Logic.{_⊎_};
 ghost use Prim.Native.Nat.{_+_, _*_, _≤_, _<_};
 ghost use lib.ListN.{length};
+ghost use Rattle.spec_language.specs.Types.{unset};
+ghost use Rattle.records.specs.Format.{mostVariables};
 ghost use Rattle.varset.specs.Sets.{Set, has, none, Sub};
 ghost use Rattle.records.specs.Fields.{kindAt, bAt};
 ghost use Rattle.spec_language.specs.Statements.{Statement, Seq, Decl, If, While, Read};
@@ -23,7 +26,7 @@ pub struct Effect {
 
 // The set with the variable of node i where the node is a decl.
 pub fn with_decl(part: &[u8], i: usize, set: VarSet) -> VarSet
-    requires { ⌜ (12 * i + 12 ≤ length (now part)) × (kindAt (now part) i ≡ 9 → bAt (now part) i < 64) ⌝ }
+    requires { ⌜ (12 * i + 12 ≤ length (now part)) × (kindAt (now part) i ≡ 9 → bAt (now part) i < mostVariables) ⌝ }
     ensures grown { λ r. ⌜ Sub (has (set .0)) (has (r .0)) ⌝ }
     ensures own { λ r. ⌜ (kindAt (now (part .entry)) i ≡ 9 → has (r .0) (bAt (now (part .entry)) i) ≡ true) ⌝ }
 {
@@ -43,9 +46,9 @@ pub fn is_empty(set: VarSet) -> bool
 
 // A code, or the code of a failure.
 fn code_if(passes: bool, code: u8) -> u8
-    ensures { λ r. ⌜ (r < 255 → (passes ≡ true) × (r ≡ code)) ⌝ }
+    ensures { λ r. ⌜ (r < unset → (passes ≡ true) × (r ≡ code)) ⌝ }
 {
-    if passes { code } else { 255 }
+    if passes { code } else { TYPE_UNSET }
 }
 
 // The code of one statement after another.
@@ -64,7 +67,7 @@ fn code_both(a: u8, b: u8) -> u8
 
 // One statement after another, where these variables are declared up to there.
 pub fn in_sequence(first: Effect, second: Effect, declared: VarSet) -> Effect
-    ensures { λ r. ⌜ ((s u : Statement) → Means s (has (declared .0)) (first .code) (first .reads .0) (first .sets .0) → Means u (has (declared .0)) (second .code) (second .reads .0) (second .sets .0) → r .code < 255 → Means (Seq s u) (has (declared .0)) (r .code) (r .reads .0) (r .sets .0)) ⌝ }
+    ensures { λ r. ⌜ ((s u : Statement) → Means s (has (declared .0)) (first .code) (first .reads .0) (first .sets .0) → Means u (has (declared .0)) (second .code) (second .reads .0) (second .sets .0) → r .code < unset → Means (Seq s u) (has (declared .0)) (r .code) (r .reads .0) (r .sets .0)) ⌝ }
 {
     let early = first.reads;
     let late = second.reads;
@@ -80,8 +83,8 @@ pub fn in_sequence(first: Effect, second: Effect, declared: VarSet) -> Effect
 
 // A statement in the scope of x, which is one of the variables declared up to there.
 pub fn in_scope(inner: Effect, x: u32) -> Effect
-    requires { ⌜ x < 64 ⌝ }
-    ensures { λ r. ⌜ ((s : Statement) (d : Set) → d x ≡ true → Means s d (inner .code) (inner .reads .0) (inner .sets .0) → r .code < 255 → Means (Decl x s) d (r .code) (r .reads .0) (r .sets .0)) ⌝ }
+    requires { ⌜ x < mostVariables ⌝ }
+    ensures { λ r. ⌜ ((s : Statement) (d : Set) → d x ≡ true → Means s d (inner .code) (inner .reads .0) (inner .sets .0) → r .code < unset → Means (Decl x s) d (r .code) (r .reads .0) (r .sets .0)) ⌝ }
 {
     let reads = inner.reads;
     let sets = inner.sets;

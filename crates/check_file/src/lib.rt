@@ -1,6 +1,9 @@
 // The check of a procedure file: questions 1 to 14 in order.
 use records::Found;
 use records::count_of;
+use records::format::MOST_NODES;
+use records::format::SHORTEST_FILE;
+use records::format::TYPE_UNSET;
 use records::function_count;
 use records::shift_by;
 ghost use mathlib.Core.Path.{_≡_};
@@ -8,6 +11,7 @@ ghost use mathlib.Core.Bool.{true, _||_};
 ghost use Prim.Native.Nat.{ℕ, _+_, _*_, _-_, _≤_, _<_};
 ghost use lib.Dec.{eqb};
 ghost use lib.ListN.{length, getD};
+ghost use Rattle.records.specs.Format.{mostFunctions, mostNodes, mostVariables};
 ghost use Rattle.varset.specs.Lowest.{pick};
 ghost use Rattle.records.specs.Fields.{functions};
 ghost use Rattle.records.specs.Parts.{Laid};
@@ -32,10 +36,10 @@ pub enum Answer {
 // What fails question q, from 7 to 14, in the part of function f, which has n nodes.
 fn answer_in(file: &[u8], q: u8, f: usize, part: &[u8], n: usize) -> Found
     requires laid { ⌜ Laid (now file) × (f < functions (now file)) ⌝ }
-    requires inside { ⌜ (12 * n ≤ length (now part)) × (1 ≤ n) × (n ≤ 4096) × (7 ≤ q) ⌝ }
+    requires inside { ⌜ (12 * n ≤ length (now part)) × (1 ≤ n) × (n ≤ mostNodes) × (7 ≤ q) ⌝ }
     requires known { ⌜ (9 < q → Known (now part) n × CallsKnown (functions (now file)) (now part) n) ⌝ }
     ensures exact { λ r. ⌜ r ≡ getD (answers (now (file .entry)) f (now (part .entry)) n) (q - 7) Found.Nothing ⌝ }
-    ensures small { λ r. ⌜ ((i x : ℕ) → r ≡ Found.At i x → (i < n) × (x < 64)) ⌝ }
+    ensures small { λ r. ⌜ ((i x : ℕ) → r ≡ Found.At i x → (i < n) × (x < mostVariables)) ⌝ }
 {
     match q {
         7 => check_shape::first_node(file, f, part, n, 7),
@@ -52,7 +56,7 @@ fn answer_in(file: &[u8], q: u8, f: usize, part: &[u8], n: usize) -> Found
 
 // The record that the places of question q in function f are counted from.
 fn origin(q: u8, f: usize, start: usize) -> usize
-    requires { ⌜ f < 128 ⌝ }
+    requires { ⌜ f < mostFunctions ⌝ }
     ensures { λ r. ⌜ r ≡ pick (eqb q 10 || eqb q 14) (1 + f) start ⌝ }
 {
     match q {
@@ -67,7 +71,7 @@ fn first_in_parts(file: &[u8], q: u8) -> Found
     requires laid { ⌜ Laid (now file) × (length (now file) ≤ 50700) × (7 ≤ q) ⌝ }
     requires known { ⌜ Ready (now file) q ⌝ }
     ensures exact { λ r. ⌜ r ≡ firstIn (inPart q (now (file .entry))) (functions (now (file .entry))) 0 ⌝ }
-    ensures small { λ r. ⌜ ((i x : ℕ) → r ≡ Found.At i x → (i < 4225) × (x < 64)) ⌝ }
+    ensures small { λ r. ⌜ ((i x : ℕ) → r ≡ Found.At i x → (i < 4225) × (x < mostVariables)) ⌝ }
 {
     let functions = function_count(file);
     let mut f = 0;
@@ -116,20 +120,20 @@ fn file_passes(file: &[u8]) -> bool
     ensures { λ r. ⌜ (r ≡ true → firstRefusal (partQuestions (now (file .entry)) 8 7) ≡ accepted) ⌝ }
 {
     if file.len() <= 3072 {
-        let mut types = [255u8; 256];
+        let mut types = [TYPE_UNSET; 256];
         let mut reads = [0u64; 256];
         let mut sets = [0u64; 256];
         return parts_pass(file, &mut types, &mut reads, &mut sets);
     }
     if file.len() <= 12288 {
-        let mut types = [255u8; 1024];
+        let mut types = [TYPE_UNSET; 1024];
         let mut reads = [0u64; 1024];
         let mut sets = [0u64; 1024];
         return parts_pass(file, &mut types, &mut reads, &mut sets);
     }
-    let mut types = [255u8; 4096];
-    let mut reads = [0u64; 4096];
-    let mut sets = [0u64; 4096];
+    let mut types = [TYPE_UNSET; MOST_NODES];
+    let mut reads = [0u64; MOST_NODES];
+    let mut sets = [0u64; MOST_NODES];
     parts_pass(file, &mut types, &mut reads, &mut sets)
 }
 
@@ -200,7 +204,7 @@ pub fn check(file: &[u8]) -> Answer
             item: 0,
         };
     }
-    if len < 36 {
+    if len < SHORTEST_FILE {
         return Answer::Refused {
             question: 1,
             place: 0,

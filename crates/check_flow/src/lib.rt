@@ -15,6 +15,7 @@ ghost use mathlib.Core.List.{List};
 ghost use Prim.Native.Nat.{ℕ, _+_, _*_, _-_, _≤_, _<_};
 ghost use lib.Dec.{eqb};
 ghost use lib.ListN.{length};
+ghost use Rattle.records.specs.Format.{mostParameters, mostVariables};
 ghost use Rattle.varset.specs.Sets.{Set, has, none, without, below};
 ghost use Rattle.records.specs.Fields.{paramsOf, kindAt, bAt};
 ghost use Rattle.spec_language.specs.Statements.{Statement, Seq, Decl, If, While, statementAt, Read, readsOf};
@@ -31,7 +32,7 @@ pub struct Flow {
 
 // Whether node i reads a variable that is not in the set.
 fn reads_empty(part: &[u8], set: VarSet, i: usize) -> bool
-    requires { ⌜ (12 * i + 12 ≤ length (now part)) × (kindAt (now part) i ≡ 2 → bAt (now part) i < 64) ⌝ }
+    requires { ⌜ (12 * i + 12 ≤ length (now part)) × (kindAt (now part) i ≡ 2 → bAt (now part) i < mostVariables) ⌝ }
     ensures { λ r. ⌜ r ≡ eqb (kindAt (now (part .entry)) i) 2 && not (has (set .0) (bAt (now (part .entry)) i)) ⌝ }
 {
     if kind_at(part, i) == 2 {
@@ -86,7 +87,7 @@ fn in_sequence(first: Flow, second: Flow) -> Flow
 
 // A statement in the scope of x.
 fn in_scope(inner: Flow, x: u32) -> Flow
-    requires { ⌜ x < 64 ⌝ }
+    requires { ⌜ x < mostVariables ⌝ }
     ensures { λ r. ⌜ ((s : Statement) (d : Set) → Follows s (without d x) inner → Follows (Decl x s) d r) ⌝ }
 {
     let left = inner.left;
@@ -175,7 +176,7 @@ pub fn flow_from(part: &[u8], n: usize, i: usize, set: VarSet) -> Flow
 
 // The first node of function f's part, of n nodes, that reads a variable without a value.
 pub fn first_lacking(file: &[u8], f: usize, part: &[u8], n: usize) -> Found
-    requires laid { ⌜ (12 * (1 + f) + 12 ≤ length (now file)) × (paramsOf (now file) f ≤ 8) ⌝ }
+    requires laid { ⌜ (12 * (1 + f) + 12 ≤ length (now file)) × (paramsOf (now file) f ≤ mostParameters) ⌝ }
     requires inside { ⌜ (12 * n ≤ length (now part)) × (1 ≤ n) ⌝ }
     requires known { ⌜ Known (now part) n ⌝ }
     ensures exact { λ r. ⌜ r ≡ lacks (statementAt (now (part .entry)) (n - 1)) (below (paramsOf (now (file .entry)) f)) ⌝ }

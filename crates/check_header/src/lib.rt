@@ -1,5 +1,8 @@
 // Questions 2, 3, 5 and 6: the header, the file's length, the part counts and main.
 use records::count_of;
+use records::format::HEADER_MARK;
+use records::format::MOST_FUNCTIONS;
+use records::format::MOST_NODES;
 use records::function_count;
 use records::mark_at;
 use records::node_count;
@@ -10,6 +13,7 @@ ghost use mathlib.Core.Path.{_≡_};
 ghost use Prim.Native.Nat.{_+_, _*_, _≤_, _<_};
 ghost use lib.Dec.{eqb};
 ghost use lib.ListN.{length};
+ghost use Rattle.records.specs.Format.{mostFunctions};
 ghost use Rattle.records.specs.Fields.{nodes};
 ghost use Rattle.records.specs.Parts.{sumOf};
 ghost use Rattle.spec_language.specs.Records.{headerOk, recordsOk, mainOk};
@@ -22,9 +26,9 @@ pub fn header_ok(file: &[u8]) -> bool
     let functions = function_count(file);
     let nodes = node_count(file);
     let zeros = u32_at(file, 8);
-    (mark_at(file, 0) == 21072)
-        & (((1 <= functions) & (functions <= 128))
-            & (((1 <= nodes) & (nodes <= 4096)) & (zeros == 0)))
+    (mark_at(file, 0) == HEADER_MARK)
+        & (((1 <= functions) & (functions <= MOST_FUNCTIONS))
+            & (((1 <= nodes) & (nodes <= MOST_NODES)) & (zeros == 0)))
 }
 
 // Whether the file has as many records as its header says.
@@ -39,7 +43,7 @@ pub fn records_ok(file: &[u8]) -> bool
 
 // Whether the part counts of the functions sum to the node count.
 pub fn sum_ok(file: &[u8], functions: usize) -> bool
-    requires { ⌜ (12 * (1 + functions) ≤ length (now file)) × (functions ≤ 128) ⌝ }
+    requires { ⌜ (12 * (1 + functions) ≤ length (now file)) × (functions ≤ mostFunctions) ⌝ }
     ensures { λ r. ⌜ r ≡ eqb (sumOf (now (file .entry)) functions) (nodes (now (file .entry))) ⌝ }
 {
     let mut sum = 0;

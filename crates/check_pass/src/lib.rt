@@ -1,9 +1,12 @@
-// The pass over the nodes of a part, kind by kind, and over the parts of a file: passed, or not known.
+// The pass over the nodes of a part, kind by kind: passed, or not known.
 mod nodes;
 pub mod survey;
 
 use check_effects::Effect;
 use check_effects::plain;
+use records::format::TYPE_ANY;
+use records::format::TYPE_UNSET;
+use records::format::VARIABLE_ENTRIES;
 use records::minus;
 use records::nodes::a_at;
 use records::nodes::b_at;
@@ -17,6 +20,8 @@ ghost use mathlib.Core.Path.{_≡_};
 ghost use mathlib.Core.Bool.{true};
 ghost use Prim.Native.Nat.{_+_, _*_, _-_, _≤_, _<_};
 ghost use lib.ListN.{length, set};
+ghost use Rattle.spec_language.specs.Types.{unset};
+ghost use Rattle.records.specs.Format.{mostNodes};
 ghost use Rattle.varset.specs.Sets.{has};
 ghost use Rattle.records.specs.Fields.{functions, kindAt};
 ghost use Rattle.records.specs.Parts.{Laid};
@@ -29,7 +34,7 @@ fn call_at(
     f: usize,
     part: &[u8],
     n: usize,
-    decls: &[usize; 64],
+    decls: &[usize; VARIABLE_ENTRIES],
     codes: &[u8],
     reads: &[u64],
     sets: &[u64],
@@ -37,7 +42,7 @@ fn call_at(
     i: usize,
 ) -> Effect
     requires { ⌜ AtNode (now file) f (now part) n (now decls) (now codes) (now reads) (now sets) (has (seen .0)) i × (kindAt (now part) i ≡ 5) ⌝ }
-    ensures { λ r. ⌜ (r .code < 255 → Judged (now (file .entry)) f (now (part .entry)) n (has (seen .0)) i (r .code) (r .reads .0) (r .sets .0)) ⌝ }
+    ensures { λ r. ⌜ (r .code < unset → Judged (now (file .entry)) f (now (part .entry)) n (has (seen .0)) i (r .code) (r .reads .0) (r .sets .0)) ⌝ }
 {
     let callee = b_at(part, i) as usize;
     let mut j = wide(a_at(part, i)) as usize;
@@ -47,7 +52,7 @@ fn call_at(
     while 0 < j {
         j -= 1;
         if codes[c] != check_types::param_type(file, callee, j) {
-            return plain(255, VarSet::empty(), VarSet::empty());
+            return plain(TYPE_UNSET, VarSet::empty(), VarSet::empty());
         }
         all = all.union(nodes::reads_of(reads, c));
         let size = size_at(part, c);
@@ -65,7 +70,7 @@ fn node_at(
     f: usize,
     part: &[u8],
     n: usize,
-    decls: &[usize; 64],
+    decls: &[usize; VARIABLE_ENTRIES],
     codes: &[u8],
     reads: &[u64],
     sets: &[u64],
@@ -73,7 +78,7 @@ fn node_at(
     i: usize,
 ) -> Effect
     requires { ⌜ AtNode (now file) f (now part) n (now decls) (now codes) (now reads) (now sets) (has (seen .0)) i ⌝ }
-    ensures { λ r. ⌜ (r .code < 255 → Judged (now (file .entry)) f (now (part .entry)) n (has (seen .0)) i (r .code) (r .reads .0) (r .sets .0)) ⌝ }
+    ensures { λ r. ⌜ (r .code < unset → Judged (now (file .entry)) f (now (part .entry)) n (has (seen .0)) i (r .code) (r .reads .0) (r .sets .0)) ⌝ }
 {
     let kind = kind_at(part, i);
     let t = result_of(file, f);
@@ -95,9 +100,22 @@ fn node_at(
         11 => nodes::loop_at(file, f, part, n, decls, codes, reads, sets, seen, i),
         12 => nodes::single_at(file, f, part, n, decls, codes, reads, sets, seen, i, t, 4),
         13 => nodes::single_at(file, f, part, n, decls, codes, reads, sets, seen, i, 2, 3),
-        14 => nodes::single_at(file, f, part, n, decls, codes, reads, sets, seen, i, 254, 3),
+        14 => nodes::single_at(
+            file,
+            f,
+            part,
+            n,
+            decls,
+            codes,
+            reads,
+            sets,
+            seen,
+            i,
+            TYPE_ANY,
+            3,
+        ),
         15 => nodes::leaf_at(file, f, part, n, decls, codes, reads, sets, seen, i, 0),
-        _ => plain(255, VarSet::empty(), VarSet::empty()),
+        _ => plain(TYPE_UNSET, VarSet::empty(), VarSet::empty()),
     }
 }
 
@@ -117,13 +135,13 @@ fn passes(
     f: usize,
     part: &[u8],
     n: usize,
-    decls: &[usize; 64],
+    decls: &[usize; VARIABLE_ENTRIES],
     begun: VarSet,
     codes: &mut [u8],
     reads: &mut [u64],
     sets: &mut [u64],
 ) -> bool
-    requires inside { ⌜ PartFacts (now file) f (now part) n (now decls) × (1 ≤ n) × (n ≤ 4096) ⌝ }
+    requires inside { ⌜ PartFacts (now file) f (now part) n (now decls) × (1 ≤ n) × (n ≤ mostNodes) ⌝ }
     requires room { ⌜ (n ≤ length (now codes)) × (n ≤ length (now reads)) × (n ≤ length (now sets)) ⌝ }
     ensures shown { λ r. ⌜ (r ≡ true → Passed (now (file .entry)) f (now (part .entry)) n (has (begun .0))) ⌝ }
     ensures room { λ r. ⌜ (length (now (codes .exit)) ≡ length (now (codes .entry))) × (length (now (reads .exit)) ≡ length (now (reads .entry))) × (length (now (sets .exit)) ≡ length (now (sets .entry))) ⌝ }
@@ -133,7 +151,7 @@ fn passes(
     while i < n {
         seen = check_effects::with_decl(part, i, seen);
         let e = node_at(file, f, part, n, decls, codes, reads, sets, seen, i);
-        if e.code == 255 {
+        if e.code == TYPE_UNSET {
             return false;
         }
         keep(codes, reads, sets, i, e);
@@ -156,12 +174,12 @@ pub fn part_passes(
     sets: &mut [u64],
 ) -> bool
     requires laid { ⌜ Laid (now file) × (f < functions (now file)) ⌝ }
-    requires inside { ⌜ (12 * n ≤ length (now part)) × (1 ≤ n) × (n ≤ 4096) ⌝ }
+    requires inside { ⌜ (12 * n ≤ length (now part)) × (1 ≤ n) × (n ≤ mostNodes) ⌝ }
     requires room { ⌜ (n ≤ length (now codes)) × (n ≤ length (now reads)) × (n ≤ length (now sets)) ⌝ }
     ensures clear { λ r. ⌜ (r ≡ true → Clear (now (file .entry)) f (now (part .entry)) n) ⌝ }
     ensures room { λ r. ⌜ (length (now (codes .exit)) ≡ length (now (codes .entry))) × (length (now (reads .exit)) ≡ length (now (reads .entry))) × (length (now (sets .exit)) ≡ length (now (sets .entry))) ⌝ }
 {
-    let mut decls = [0usize; 64];
+    let mut decls = [0usize; VARIABLE_ENTRIES];
     if !crate::survey::survey_part(file, f, part, n, &mut decls) {
         return false;
     }

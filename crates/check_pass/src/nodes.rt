@@ -1,6 +1,8 @@
 // A node of each kind in the pass over a part: its effect, or that it is not known to pass.
 use check_effects::Effect;
 use check_effects::plain;
+use records::format::TYPE_UNSET;
+use records::format::VARIABLE_ENTRIES;
 use records::minus;
 use records::nodes::b_at;
 use records::nodes::size_at;
@@ -10,6 +12,7 @@ ghost use mathlib.Core.Bool.{true};
 ghost use mathlib.Core.List.{List};
 ghost use Prim.Native.Nat.{ℕ, _+_, _*_, _-_, _≤_, _<_};
 ghost use lib.ListN.{length, getD};
+ghost use Rattle.spec_language.specs.Types.{unset};
 ghost use Rattle.varset.specs.Sets.{Set, has};
 ghost use Rattle.records.specs.Fields.{kindAt, sizeAt};
 ghost use Rattle.check_pass.specs.Judged.{Judged, Filled, AtNode, Leaf, Operator, Single};
@@ -44,12 +47,12 @@ pub fn fits(part: &[u8], i: usize, sum: usize) -> bool
 
 // The effect, where the test is passed.
 pub fn guard(passes: bool, e: Effect) -> Effect
-    ensures { λ r. ⌜ (r .code < 255 → (passes ≡ true) × (r ≡ e)) ⌝ }
+    ensures { λ r. ⌜ (r .code < unset → (passes ≡ true) × (r ≡ e)) ⌝ }
 {
     if passes {
         e
     } else {
-        plain(255, VarSet::empty(), VarSet::empty())
+        plain(TYPE_UNSET, VarSet::empty(), VarSet::empty())
     }
 }
 
@@ -59,7 +62,7 @@ pub fn leaf_at(
     f: usize,
     part: &[u8],
     n: usize,
-    decls: &[usize; 64],
+    decls: &[usize; VARIABLE_ENTRIES],
     codes: &[u8],
     reads: &[u64],
     sets: &[u64],
@@ -68,7 +71,7 @@ pub fn leaf_at(
     code: u8,
 ) -> Effect
     requires { ⌜ AtNode (now file) f (now part) n (now decls) (now codes) (now reads) (now sets) (has (seen .0)) i × (Leaf (now file) f (now part) n i code) ⌝ }
-    ensures { λ r. ⌜ (r .code < 255 → Judged (now (file .entry)) f (now (part .entry)) n (has (seen .0)) i (r .code) (r .reads .0) (r .sets .0)) ⌝ }
+    ensures { λ r. ⌜ (r .code < unset → Judged (now (file .entry)) f (now (part .entry)) n (has (seen .0)) i (r .code) (r .reads .0) (r .sets .0)) ⌝ }
 {
     guard(
         fits(part, i, 0),
@@ -82,7 +85,7 @@ pub fn variable_at(
     f: usize,
     part: &[u8],
     n: usize,
-    decls: &[usize; 64],
+    decls: &[usize; VARIABLE_ENTRIES],
     codes: &[u8],
     reads: &[u64],
     sets: &[u64],
@@ -90,7 +93,7 @@ pub fn variable_at(
     i: usize,
 ) -> Effect
     requires { ⌜ AtNode (now file) f (now part) n (now decls) (now codes) (now reads) (now sets) (has (seen .0)) i × (kindAt (now part) i ≡ 2) ⌝ }
-    ensures { λ r. ⌜ (r .code < 255 → Judged (now (file .entry)) f (now (part .entry)) n (has (seen .0)) i (r .code) (r .reads .0) (r .sets .0)) ⌝ }
+    ensures { λ r. ⌜ (r .code < unset → Judged (now (file .entry)) f (now (part .entry)) n (has (seen .0)) i (r .code) (r .reads .0) (r .sets .0)) ⌝ }
 {
     let x = b_at(part, i);
     let found = check_types::var_type(file, f, part, n, decls, x);
@@ -106,7 +109,7 @@ pub fn operator_at(
     f: usize,
     part: &[u8],
     n: usize,
-    decls: &[usize; 64],
+    decls: &[usize; VARIABLE_ENTRIES],
     codes: &[u8],
     reads: &[u64],
     sets: &[u64],
@@ -116,7 +119,7 @@ pub fn operator_at(
     code: u8,
 ) -> Effect
     requires { ⌜ AtNode (now file) f (now part) n (now decls) (now codes) (now reads) (now sets) (has (seen .0)) i × (Operator (now file) f (now part) n i want code) ⌝ }
-    ensures { λ r. ⌜ (r .code < 255 → Judged (now (file .entry)) f (now (part .entry)) n (has (seen .0)) i (r .code) (r .reads .0) (r .sets .0)) ⌝ }
+    ensures { λ r. ⌜ (r .code < unset → Judged (now (file .entry)) f (now (part .entry)) n (has (seen .0)) i (r .code) (r .reads .0) (r .sets .0)) ⌝ }
 {
     let b = minus(i, 1);
     let size = size_at(part, b);
@@ -133,7 +136,7 @@ pub fn sequence_at(
     f: usize,
     part: &[u8],
     n: usize,
-    decls: &[usize; 64],
+    decls: &[usize; VARIABLE_ENTRIES],
     codes: &[u8],
     reads: &[u64],
     sets: &[u64],
@@ -141,7 +144,7 @@ pub fn sequence_at(
     i: usize,
 ) -> Effect
     requires { ⌜ AtNode (now file) f (now part) n (now decls) (now codes) (now reads) (now sets) (has (seen .0)) i × (kindAt (now part) i ≡ 7) ⌝ }
-    ensures { λ r. ⌜ (r .code < 255 → Judged (now (file .entry)) f (now (part .entry)) n (has (seen .0)) i (r .code) (r .reads .0) (r .sets .0)) ⌝ }
+    ensures { λ r. ⌜ (r .code < unset → Judged (now (file .entry)) f (now (part .entry)) n (has (seen .0)) i (r .code) (r .reads .0) (r .sets .0)) ⌝ }
 {
     let b = minus(i, 1);
     let size = size_at(part, b);
@@ -160,7 +163,7 @@ pub fn assign_at(
     f: usize,
     part: &[u8],
     n: usize,
-    decls: &[usize; 64],
+    decls: &[usize; VARIABLE_ENTRIES],
     codes: &[u8],
     reads: &[u64],
     sets: &[u64],
@@ -168,7 +171,7 @@ pub fn assign_at(
     i: usize,
 ) -> Effect
     requires { ⌜ AtNode (now file) f (now part) n (now decls) (now codes) (now reads) (now sets) (has (seen .0)) i × (kindAt (now part) i ≡ 8) ⌝ }
-    ensures { λ r. ⌜ (r .code < 255 → Judged (now (file .entry)) f (now (part .entry)) n (has (seen .0)) i (r .code) (r .reads .0) (r .sets .0)) ⌝ }
+    ensures { λ r. ⌜ (r .code < unset → Judged (now (file .entry)) f (now (part .entry)) n (has (seen .0)) i (r .code) (r .reads .0) (r .sets .0)) ⌝ }
 {
     let x = b_at(part, i);
     let b = minus(i, 1);
@@ -188,7 +191,7 @@ pub fn scope_at(
     f: usize,
     part: &[u8],
     n: usize,
-    decls: &[usize; 64],
+    decls: &[usize; VARIABLE_ENTRIES],
     codes: &[u8],
     reads: &[u64],
     sets: &[u64],
@@ -196,7 +199,7 @@ pub fn scope_at(
     i: usize,
 ) -> Effect
     requires { ⌜ AtNode (now file) f (now part) n (now decls) (now codes) (now reads) (now sets) (has (seen .0)) i × (kindAt (now part) i ≡ 9) ⌝ }
-    ensures { λ r. ⌜ (r .code < 255 → Judged (now (file .entry)) f (now (part .entry)) n (has (seen .0)) i (r .code) (r .reads .0) (r .sets .0)) ⌝ }
+    ensures { λ r. ⌜ (r .code < unset → Judged (now (file .entry)) f (now (part .entry)) n (has (seen .0)) i (r .code) (r .reads .0) (r .sets .0)) ⌝ }
 {
     let x = b_at(part, i);
     let b = minus(i, 1);
@@ -213,7 +216,7 @@ pub fn branches_at(
     f: usize,
     part: &[u8],
     n: usize,
-    decls: &[usize; 64],
+    decls: &[usize; VARIABLE_ENTRIES],
     codes: &[u8],
     reads: &[u64],
     sets: &[u64],
@@ -221,7 +224,7 @@ pub fn branches_at(
     i: usize,
 ) -> Effect
     requires { ⌜ AtNode (now file) f (now part) n (now decls) (now codes) (now reads) (now sets) (has (seen .0)) i × (kindAt (now part) i ≡ 10) ⌝ }
-    ensures { λ r. ⌜ (r .code < 255 → Judged (now (file .entry)) f (now (part .entry)) n (has (seen .0)) i (r .code) (r .reads .0) (r .sets .0)) ⌝ }
+    ensures { λ r. ⌜ (r .code < unset → Judged (now (file .entry)) f (now (part .entry)) n (has (seen .0)) i (r .code) (r .reads .0) (r .sets .0)) ⌝ }
 {
     let b = minus(i, 1);
     let size = size_at(part, b);
@@ -242,7 +245,7 @@ pub fn loop_at(
     f: usize,
     part: &[u8],
     n: usize,
-    decls: &[usize; 64],
+    decls: &[usize; VARIABLE_ENTRIES],
     codes: &[u8],
     reads: &[u64],
     sets: &[u64],
@@ -250,7 +253,7 @@ pub fn loop_at(
     i: usize,
 ) -> Effect
     requires { ⌜ AtNode (now file) f (now part) n (now decls) (now codes) (now reads) (now sets) (has (seen .0)) i × (kindAt (now part) i ≡ 11) ⌝ }
-    ensures { λ r. ⌜ (r .code < 255 → Judged (now (file .entry)) f (now (part .entry)) n (has (seen .0)) i (r .code) (r .reads .0) (r .sets .0)) ⌝ }
+    ensures { λ r. ⌜ (r .code < unset → Judged (now (file .entry)) f (now (part .entry)) n (has (seen .0)) i (r .code) (r .reads .0) (r .sets .0)) ⌝ }
 {
     let b = minus(i, 1);
     let size = size_at(part, b);
@@ -268,7 +271,7 @@ pub fn single_at(
     f: usize,
     part: &[u8],
     n: usize,
-    decls: &[usize; 64],
+    decls: &[usize; VARIABLE_ENTRIES],
     codes: &[u8],
     reads: &[u64],
     sets: &[u64],
@@ -278,7 +281,7 @@ pub fn single_at(
     code: u8,
 ) -> Effect
     requires { ⌜ AtNode (now file) f (now part) n (now decls) (now codes) (now reads) (now sets) (has (seen .0)) i × (Single (now file) f (now part) n i want code) ⌝ }
-    ensures { λ r. ⌜ (r .code < 255 → Judged (now (file .entry)) f (now (part .entry)) n (has (seen .0)) i (r .code) (r .reads .0) (r .sets .0)) ⌝ }
+    ensures { λ r. ⌜ (r .code < unset → Judged (now (file .entry)) f (now (part .entry)) n (has (seen .0)) i (r .code) (r .reads .0) (r .sets .0)) ⌝ }
 {
     let b = minus(i, 1);
     let fit = fits(part, i, size_at(part, b));

@@ -1,6 +1,8 @@
 // One pass over the nodes of a part before it is judged: questions 7 and 10, and the table of decls.
 use check_scopes::Declared;
 use records::Found;
+use records::format::NODE_MARK;
+use records::format::VARIABLE_ENTRIES;
 use records::mark_at;
 use records::nodes::a_at;
 use records::nodes::b_at;
@@ -61,14 +63,20 @@ fn within_limits(
     let kind = wide(kind_at(part, i)) as usize;
     if kind < 16 {
         let b = b_at(part, i) as u64;
-        (mark_at(part, i) == 17486) & (a_at(part, i) < tops[kind]) & (b < limits[kind])
+        (mark_at(part, i) == NODE_MARK) & (a_at(part, i) < tops[kind]) & (b < limits[kind])
     } else {
         false
     }
 }
 
 // Whether questions 7 and 10 find nothing in the part of function f, of n nodes; the table then has its decls.
-pub fn survey_part(file: &[u8], f: usize, part: &[u8], n: usize, table: &mut [usize; 64]) -> bool
+pub fn survey_part(
+    file: &[u8],
+    f: usize,
+    part: &[u8],
+    n: usize,
+    table: &mut [usize; VARIABLE_ENTRIES],
+) -> bool
     requires laid { ⌜ Laid (now file) × (f < functions (now file)) ⌝ }
     requires inside { ⌜ 12 * n ≤ length (now part) ⌝ }
     requires empty { ⌜ Noted (now part) 0 (now table) ⌝ }

@@ -1,5 +1,6 @@
 // Questions 10 and 11: each variable is declared once, and used under its decl.
 use records::Found;
+use records::format::VARIABLE_ENTRIES;
 use records::nodes::b_at;
 use records::nodes::kind_at;
 use records::nodes::size_at;
@@ -11,6 +12,7 @@ ghost use mathlib.Core.Path.{_≡_};
 ghost use mathlib.Core.Bool.{true};
 ghost use Prim.Native.Nat.{_+_, _*_, _≤_, _<_};
 ghost use lib.ListN.{length};
+ghost use Rattle.records.specs.Format.{mostParameters, mostVariables};
 ghost use Rattle.varset.specs.Lowest.{lowest};
 ghost use Rattle.records.specs.Fields.{paramsOf, varsOf, kindAt, bAt};
 ghost use Rattle.records.specs.Search.{firstOf};
@@ -28,7 +30,7 @@ pub struct Declared {
 // The same with node i taken in.
 pub fn count_decl(part: &[u8], i: usize, d: Declared) -> Declared
     requires inside { ⌜ 12 * i + 12 ≤ length (now part) ⌝ }
-    requires narrow { ⌜ (kindAt (now part) i ≡ 9 → bAt (now part) i < 64) ⌝ }
+    requires narrow { ⌜ (kindAt (now part) i ≡ 9 → bAt (now part) i < mostVariables) ⌝ }
     requires counted { ⌜ Counts (now part) i d ⌝ }
     ensures { λ r. ⌜ Counts (now (part .entry)) (i + 1) r ⌝ }
 {
@@ -71,7 +73,7 @@ fn declared_in(part: &[u8], n: usize) -> Declared
 
 // The lowest variable of function f that is not declared exactly once, where d has the decls of its part, of n nodes.
 pub fn lowest_undeclared(file: &[u8], f: usize, part: &[u8], n: usize, d: Declared) -> Found
-    requires laid { ⌜ (12 * (1 + f) + 12 ≤ length (now file)) × (varsOf (now file) f ≤ 64) × (paramsOf (now file) f ≤ 8) ⌝ }
+    requires laid { ⌜ (12 * (1 + f) + 12 ≤ length (now file)) × (varsOf (now file) f ≤ mostVariables) × (paramsOf (now file) f ≤ mostParameters) ⌝ }
     requires counted { ⌜ Counts (now part) n d ⌝ }
     ensures { λ r. ⌜ r ≡ firstUndeclared (lowest (undeclared (now (file .entry)) f (now (part .entry)) n) (varsOf (now (file .entry)) f)) (varsOf (now (file .entry)) f) ⌝ }
 {
@@ -88,7 +90,7 @@ pub fn lowest_undeclared(file: &[u8], f: usize, part: &[u8], n: usize, d: Declar
 
 // The lowest variable of function f, whose part has n nodes, that is not declared exactly once.
 pub fn first_undeclared(file: &[u8], f: usize, part: &[u8], n: usize) -> Found
-    requires laid { ⌜ (12 * (1 + f) + 12 ≤ length (now file)) × (varsOf (now file) f ≤ 64) × (paramsOf (now file) f ≤ 8) ⌝ }
+    requires laid { ⌜ (12 * (1 + f) + 12 ≤ length (now file)) × (varsOf (now file) f ≤ mostVariables) × (paramsOf (now file) f ≤ mostParameters) ⌝ }
     requires inside { ⌜ 12 * n ≤ length (now part) ⌝ }
     requires named { ⌜ Named (now part) n ⌝ }
     ensures { λ r. ⌜ r ≡ firstUndeclared (lowest (undeclared (now (file .entry)) f (now (part .entry)) n) (varsOf (now (file .entry)) f)) (varsOf (now (file .entry)) f) ⌝ }
@@ -97,9 +99,9 @@ pub fn first_undeclared(file: &[u8], f: usize, part: &[u8], n: usize) -> Found
 }
 
 // The table of decls with node i taken in.
-pub fn note_decl(part: &[u8], i: usize, table: &mut [usize; 64])
+pub fn note_decl(part: &[u8], i: usize, table: &mut [usize; VARIABLE_ENTRIES])
     requires inside { ⌜ 12 * i + 12 ≤ length (now part) ⌝ }
-    requires narrow { ⌜ (kindAt (now part) i ≡ 9 → bAt (now part) i < 64) ⌝ }
+    requires narrow { ⌜ (kindAt (now part) i ≡ 9 → bAt (now part) i < mostVariables) ⌝ }
     requires told { ⌜ Noted (now part) i (now table) ⌝ }
     ensures { λ r. ⌜ Noted (now (part .entry)) (i + 1) (now (table .exit)) ⌝ }
 {
@@ -110,12 +112,12 @@ pub fn note_decl(part: &[u8], i: usize, table: &mut [usize; 64])
 }
 
 // The decl of each variable of a part of n nodes.
-pub fn decl_table(part: &[u8], n: usize) -> [usize; 64]
+pub fn decl_table(part: &[u8], n: usize) -> [usize; VARIABLE_ENTRIES]
     requires inside { ⌜ 12 * n ≤ length (now part) ⌝ }
     requires named { ⌜ Named (now part) n ⌝ }
     ensures { λ r. ⌜ Decls (now (part .entry)) n r ⌝ }
 {
-    let mut table = [0usize; 64];
+    let mut table = [0usize; VARIABLE_ENTRIES];
     let mut i = 0;
     while i < n {
         note_decl(part, i, &mut table);
@@ -133,10 +135,17 @@ fn is_under(part: &[u8], d: usize, j: usize) -> bool
 }
 
 // Whether node i of a part of n nodes, which uses or assigns a variable, does so outside its decl.
-pub fn strays(file: &[u8], f: usize, part: &[u8], n: usize, decls: &[usize; 64], i: usize) -> bool
+pub fn strays(
+    file: &[u8],
+    f: usize,
+    part: &[u8],
+    n: usize,
+    decls: &[usize; VARIABLE_ENTRIES],
+    i: usize,
+) -> bool
     requires laid { ⌜ 12 * (1 + f) + 12 ≤ length (now file) ⌝ }
     requires inside { ⌜ (12 * n ≤ length (now part)) × (i < n) ⌝ }
-    requires uses { ⌜ (usesVariable (kindAt (now part) i) ≡ true) × (bAt (now part) i < 64) ⌝ }
+    requires uses { ⌜ (usesVariable (kindAt (now part) i) ≡ true) × (bAt (now part) i < mostVariables) ⌝ }
     requires told { ⌜ Decls (now part) n (now decls) ⌝ }
     ensures { λ r. ⌜ r ≡ outside (now (file .entry)) f (now (part .entry)) n i ⌝ }
 {
@@ -149,7 +158,14 @@ pub fn strays(file: &[u8], f: usize, part: &[u8], n: usize, decls: &[usize; 64],
 }
 
 // Whether node i of a part of n nodes uses or assigns a variable from p on outside its decl.
-fn is_outside(file: &[u8], f: usize, part: &[u8], n: usize, decls: &[usize; 64], i: usize) -> bool
+fn is_outside(
+    file: &[u8],
+    f: usize,
+    part: &[u8],
+    n: usize,
+    decls: &[usize; VARIABLE_ENTRIES],
+    i: usize,
+) -> bool
     requires laid { ⌜ 12 * (1 + f) + 12 ≤ length (now file) ⌝ }
     requires inside { ⌜ (12 * n ≤ length (now part)) × (i < n) ⌝ }
     requires known { ⌜ Known (now part) n ⌝ }

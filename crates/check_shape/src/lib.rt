@@ -1,6 +1,10 @@
 // Questions 4, 7 and 8: function records, node records and sizes.
 use records::Found;
 use records::count_of;
+use records::format::FUNCTION_MARK;
+use records::format::MOST_PARAMETERS;
+use records::format::MOST_VARIABLES;
+use records::format::NODE_MARK;
 use records::function_count;
 use records::mark_at;
 use records::mask_of;
@@ -46,11 +50,13 @@ fn function_ok(file: &[u8], f: usize) -> bool
     let v = vars_of(file, f);
     let zeros = u16_at(file, 12 * (1 + f) + 6);
     let count = count_of(file, f);
-    if p <= 8 {
+    if p <= MOST_PARAMETERS {
         let fits = mask_fits(mask_of(file, f), p);
-        (mark == 20038)
+        (mark == FUNCTION_MARK)
             & ((result <= 2)
-                & ((p <= 8) & (((p <= v) & (v <= 64)) & (fits & ((zeros == 0) & (1 <= count))))))
+                & ((p <= MOST_PARAMETERS)
+                    & (((p <= v) & (v <= MOST_VARIABLES))
+                        & (fits & ((zeros == 0) & (1 <= count))))))
     } else {
         false
     }
@@ -112,7 +118,7 @@ pub fn node_ok(file: &[u8], f: usize, part: &[u8], i: usize) -> bool
     ensures { λ r. ⌜ r ≡ nodeOk (now (file .entry)) f (now (part .entry)) i ⌝ }
 {
     let right = fields_ok(file, f, kind_at(part, i), a_at(part, i), b_at(part, i));
-    (mark_at(part, i) == 17486) & right
+    (mark_at(part, i) == NODE_MARK) & right
 }
 
 // The sizes of the m children that end at `last` together.

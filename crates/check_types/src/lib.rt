@@ -1,5 +1,12 @@
 // Question 12: the type of each node, and the types that nodes want.
 use records::Found;
+use records::format::MOST_NODES;
+use records::format::TYPE_ANY;
+use records::format::TYPE_BOOL;
+use records::format::TYPE_INT;
+use records::format::TYPE_NOTHING;
+use records::format::TYPE_UNSET;
+use records::format::VARIABLE_ENTRIES;
 use records::mask_of;
 use records::minus;
 use records::nodes::a_at;
@@ -13,6 +20,7 @@ use records::wide;
 ghost use mathlib.Core.Path.{_≡_};
 ghost use Prim.Native.Nat.{_+_, _*_, _-_, _≤_, _<_};
 ghost use lib.ListN.{length, getD};
+ghost use Rattle.records.specs.Format.{mostNodes, mostParameters, mostVariables};
 ghost use Rattle.records.specs.Fields.{functions, paramsOf, kindAt};
 ghost use Rattle.records.specs.Parts.{Laid};
 ghost use Rattle.records.specs.Search.{firstOf};
@@ -31,9 +39,16 @@ pub fn param_type(file: &[u8], f: usize, k: usize) -> u8
 }
 
 // The type of variable x of function f.
-pub fn var_type(file: &[u8], f: usize, part: &[u8], n: usize, decls: &[usize; 64], x: u32) -> u8
-    requires laid { ⌜ (12 * (1 + f) + 12 ≤ length (now file)) × (paramsOf (now file) f ≤ 8) ⌝ }
-    requires inside { ⌜ (12 * n ≤ length (now part)) × (1 ≤ n) × (x < 64) ⌝ }
+pub fn var_type(
+    file: &[u8],
+    f: usize,
+    part: &[u8],
+    n: usize,
+    decls: &[usize; VARIABLE_ENTRIES],
+    x: u32,
+) -> u8
+    requires laid { ⌜ (12 * (1 + f) + 12 ≤ length (now file)) × (paramsOf (now file) f ≤ mostParameters) ⌝ }
+    requires inside { ⌜ (12 * n ≤ length (now part)) × (1 ≤ n) × (x < mostVariables) ⌝ }
     requires told { ⌜ Decls (now part) n (now decls) ⌝ }
     ensures { λ r. ⌜ r ≡ varType (now (file .entry)) f (now (part .entry)) n x ⌝ }
 {
@@ -49,11 +64,18 @@ pub fn var_type(file: &[u8], f: usize, part: &[u8], n: usize, decls: &[usize; 64
 pub fn operator_type(a: u8) -> u8
     ensures { λ r. ⌜ r ≡ operatorType a ⌝ }
 {
-    if a < 10 { 1 } else { 2 }
+    if a < 10 { TYPE_INT } else { TYPE_BOOL }
 }
 
 // The type of node i of function f's part, of n nodes.
-pub fn type_of(file: &[u8], f: usize, part: &[u8], n: usize, decls: &[usize; 64], i: usize) -> u8
+pub fn type_of(
+    file: &[u8],
+    f: usize,
+    part: &[u8],
+    n: usize,
+    decls: &[usize; VARIABLE_ENTRIES],
+    i: usize,
+) -> u8
     requires laid { ⌜ Laid (now file) × (f < functions (now file)) ⌝ }
     requires inside { ⌜ (12 * n ≤ length (now part)) × (i < n) ⌝ }
     requires known { ⌜ Known (now part) n × CallsKnown (functions (now file)) (now part) n ⌝ }
@@ -62,17 +84,17 @@ pub fn type_of(file: &[u8], f: usize, part: &[u8], n: usize, decls: &[usize; 64]
 {
     let kind = kind_at(part, i);
     match kind {
-        0 => 1,
-        1 => 2,
+        0 => TYPE_INT,
+        1 => TYPE_BOOL,
         2 => var_type(file, f, part, n, decls, b_at(part, i)),
         3 => operator_type(a_at(part, i)),
-        4 => 2,
+        4 => TYPE_BOOL,
         5 => {
             let callee = b_at(part, i) as usize;
             result_of(file, callee)
         }
-        15 => 0,
-        _ => 255,
+        15 => TYPE_NOTHING,
+        _ => TYPE_UNSET,
     }
 }
 
@@ -80,7 +102,7 @@ pub fn type_of(file: &[u8], f: usize, part: &[u8], n: usize, decls: &[usize; 64]
 fn condition_type(k: usize) -> u8
     ensures { λ r. ⌜ r ≡ condition k ⌝ }
 {
-    if k == 0 { 2 } else { 254 }
+    if k == 0 { TYPE_BOOL } else { TYPE_ANY }
 }
 
 // The type that node i wants of child k.
@@ -89,7 +111,7 @@ fn want_of(
     f: usize,
     part: &[u8],
     n: usize,
-    decls: &[usize; 64],
+    decls: &[usize; VARIABLE_ENTRIES],
     i: usize,
     k: usize,
 ) -> u8
@@ -101,8 +123,8 @@ fn want_of(
 {
     let kind = kind_at(part, i);
     match kind {
-        3 => 1,
-        4 => 2,
+        3 => TYPE_INT,
+        4 => TYPE_BOOL,
         5 => {
             let callee = b_at(part, i) as usize;
             param_type(file, callee, k)
@@ -111,8 +133,8 @@ fn want_of(
         10 => condition_type(k),
         11 => condition_type(k),
         12 => result_of(file, f),
-        13 => 2,
-        _ => 254,
+        13 => TYPE_BOOL,
+        _ => TYPE_ANY,
     }
 }
 
@@ -120,7 +142,7 @@ fn want_of(
 pub fn is_suited(want: u8, found: u8) -> bool
     ensures { λ r. ⌜ r ≡ suits want found ⌝ }
 {
-    (want == 254) | (want == found)
+    (want == TYPE_ANY) | (want == found)
 }
 
 // Whether the children of node i have the types that it wants.
@@ -129,12 +151,12 @@ fn children_agree(
     f: usize,
     part: &[u8],
     n: usize,
-    decls: &[usize; 64],
-    types: &[u8; 4096],
+    decls: &[usize; VARIABLE_ENTRIES],
+    types: &[u8; MOST_NODES],
     i: usize,
 ) -> bool
     requires laid { ⌜ Laid (now file) × (f < functions (now file)) ⌝ }
-    requires inside { ⌜ (12 * n ≤ length (now part)) × (i < n) × (n ≤ 4096) ⌝ }
+    requires inside { ⌜ (12 * n ≤ length (now part)) × (i < n) × (n ≤ mostNodes) ⌝ }
     requires known { ⌜ Known (now part) n × CallsKnown (functions (now file)) (now part) n ⌝ }
     requires told { ⌜ Decls (now part) n (now decls) ⌝ }
     ensures { λ r. ⌜ r ≡ agree (wantAt (now (file .entry)) f (now (part .entry)) n i) (λ k. getD (now (types .entry)) k 0) (children (now (part .entry)) i) ⌝ }
@@ -155,12 +177,12 @@ fn children_agree(
 // The lowest node of function f's part, of n nodes, with a child of another type than it wants.
 pub fn first_mistyped(file: &[u8], f: usize, part: &[u8], n: usize) -> Found
     requires laid { ⌜ Laid (now file) × (f < functions (now file)) ⌝ }
-    requires inside { ⌜ (12 * n ≤ length (now part)) × (n ≤ 4096) ⌝ }
+    requires inside { ⌜ (12 * n ≤ length (now part)) × (n ≤ mostNodes) ⌝ }
     requires known { ⌜ Known (now part) n × CallsKnown (functions (now file)) (now part) n ⌝ }
     ensures { λ r. ⌜ r ≡ firstOf (mistyped (now (file .entry)) f (now (part .entry)) n) n ⌝ }
 {
     let decls = check_scopes::decl_table(part, n);
-    let mut types = [255u8; 4096];
+    let mut types = [TYPE_UNSET; MOST_NODES];
     let mut i = 0;
     while i < n {
         if !children_agree(file, f, part, n, &decls, &types, i) {

@@ -12,6 +12,7 @@ use Rattle.desk_faults.specs.declared.FunctionFault.{FunctionFault}
 use Rattle.desk_faults.specs.declared.FunctionFault.the-variants as ff
 use Rattle.desk_faults.specs.declared.NodeFault.{NodeFault}
 use Rattle.desk_faults.specs.declared.NodeFault.the-variants as nf
+use Rattle.records.specs.Format.{functionMark, nodeMark, mostParameters, mostVariables}
 
 -- the first of seven tests that fails
 unfoldable pub firstFault : Bool → Bool → Bool → Bool → Bool → Bool → Bool → FunctionFault
@@ -28,13 +29,13 @@ firstFault true true true true true true true = ff.Right
 unfoldable pub functionFault : List ℕ → ℕ → FunctionFault
 functionFault s f =
     pick (leb (length s / 12) (1 + f)) ff.Missing
-    (firstFault (eqb (markAt s (1 + f)) 20038) (leb (resultOf s f) 2) (leb (paramsOf s f) 8) (within (paramsOf s f) 64 (varsOf s f))
+    (firstFault (eqb (markAt s (1 + f)) functionMark) (leb (resultOf s f) 2) (leb (paramsOf s f) mostParameters) (within (paramsOf s f) mostVariables (varsOf s f))
     (ltb (maskOf s f) (2 ^ paramsOf s f)) (eqb (u16At s (12 * (1 + f) + 6)) 0) (leb 1 (countOf s f)))
 
 -- question 7's tests of record k in their order: its mark, its kind, else its fields
 unfoldable pub nodeFault : List ℕ → ℕ → NodeFault
 nodeFault s k =
     pick (leb (length s / 12) k) nf.Missing
-    (pick (eqb (markAt s k) 17486)
+    (pick (eqb (markAt s k) nodeMark)
     (pick (ltb (kindAt s k) 16) nf.Fields nf.Kind)
     nf.Mark)

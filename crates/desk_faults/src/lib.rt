@@ -1,5 +1,9 @@
 // Which field of a record is wrong, and how often a variable is declared: what a refusal's sentence says beyond its numbers.
 use records::count_of;
+use records::format::FUNCTION_MARK;
+use records::format::MOST_PARAMETERS;
+use records::format::MOST_VARIABLES;
+use records::format::NODE_MARK;
 use records::mark_at;
 use records::mask_of;
 use records::nodes::b_at;
@@ -42,7 +46,7 @@ pub enum NodeFault {
 fn mask_fits(mask: u8, p: u8) -> bool
     ensures { λ r. ⌜ r ≡ ltb mask (2 ^ p) ⌝ }
 {
-    if p <= 8 {
+    if p <= MOST_PARAMETERS {
         wide(mask) < (1u32 << p)
     } else {
         true
@@ -99,10 +103,10 @@ pub fn function_fault(file: &[u8], f: usize) -> FunctionFault
     let p = params_of(file, f);
     let v = vars_of(file, f);
     first_fault(
-        mark_at(file, 1 + f) == 20038,
+        mark_at(file, 1 + f) == FUNCTION_MARK,
         result_of(file, f) <= 2,
-        p <= 8,
-        (p <= v) & (v <= 64),
+        p <= MOST_PARAMETERS,
+        (p <= v) & (v <= MOST_VARIABLES),
         mask_fits(mask_of(file, f), p),
         u16_at(file, 12 * (1 + f) + 6) == 0,
         1 <= count_of(file, f),
@@ -116,7 +120,7 @@ pub fn node_fault(file: &[u8], k: usize) -> NodeFault
     if file.len() / 12 <= k {
         return NodeFault::Missing;
     }
-    if mark_at(file, k) != 17486 {
+    if mark_at(file, k) != NODE_MARK {
         return NodeFault::Mark;
     }
     if 16 <= kind_at(file, k) {

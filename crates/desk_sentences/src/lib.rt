@@ -2,6 +2,11 @@
 use desk_faults::FunctionFault;
 use desk_faults::NodeFault;
 use desk_places::Place;
+use records::format::HEADER_MARK;
+use records::format::LONGEST_FILE;
+use records::format::MOST_FUNCTIONS;
+use records::format::MOST_NODES;
+use records::format::SHORTEST_FILE;
 use records::function_count;
 use records::mark_at;
 use records::node_count;
@@ -20,7 +25,7 @@ fn put_length(file: &[u8], out: &mut [u8], at: usize) -> usize
     ensures { λ r. ⌜ r ≤ length (now (out .exit)) ⌝ }
 {
     let n = file.len();
-    if 50700 < n {
+    if LONGEST_FILE < n {
         return put(
             out,
             at,
@@ -28,7 +33,7 @@ fn put_length(file: &[u8], out: &mut [u8], at: usize) -> usize
         );
     }
     let next = put_numbered(out, at, b"the file has ", n as u64);
-    if n < 36 {
+    if n < SHORTEST_FILE {
         return put(out, next, b" bytes, and a procedure has at least 36");
     }
     put(out, next, b" bytes, which is no multiple of 12")
@@ -41,7 +46,7 @@ fn put_header(file: &[u8], out: &mut [u8], at: usize) -> usize
     if file.len() < 12 {
         return put(out, at, b"the file has no header");
     }
-    if mark_at(file, 0) != 21072 {
+    if mark_at(file, 0) != HEADER_MARK {
         return put(
             out,
             at,
@@ -49,12 +54,12 @@ fn put_header(file: &[u8], out: &mut [u8], at: usize) -> usize
         );
     }
     let functions = function_count(file);
-    if (functions < 1) | (128 < functions) {
+    if (functions < 1) | (MOST_FUNCTIONS < functions) {
         let next = put_numbered(out, at, b"the header counts ", functions as u64);
         return put(out, next, b" functions, and a procedure has 1 to 128");
     }
     let nodes = node_count(file);
-    if (nodes < 1) | (4096 < nodes) {
+    if (nodes < 1) | (MOST_NODES < nodes) {
         let next = put_numbered(out, at, b"the header counts ", nodes as u64);
         return put(out, next, b" nodes, and a procedure has 1 to 4,096");
     }

@@ -1,4 +1,4 @@
-// The entry points on lent memory.
+// The entry point that starts a procedure in a memory.
 use check_file::Answer;
 ghost use mathlib.Core.Path.{_≡_};
 ghost use Rattle.check_file.specs.Answers.{says, Small};

@@ -11,6 +11,7 @@ use Rattle.spec_image.specs.Decode.{frameOf}
 use Rattle.fit_frames.specs.declared.Received.{Received}
 use Rattle.fit_frames.specs.declared.Next.{Next}
 use Rattle.fit_frames.specs.Incoming.{Incoming, incoming, frameFits, handsOn}
+use Rattle.spec_image.specs.Sizes.{frameSize, framesAt}
 
 -- what comes down
 unfoldable pub incomingIs : Received → Incoming
@@ -23,4 +24,4 @@ pub record Steps (P : Program) (f : ℕ) (d : Received) (fr : Frame) (r : Next) 
 
 -- the frame with i frames under it
 abbrev pub frameIn : List ℕ → ℕ → Frame
-frameIn m i = frameOf (blockAt 20 m 4480 i)
+frameIn m i = frameOf (blockAt frameSize m framesAt i)

@@ -11,6 +11,7 @@ use fit_nodes::expression_type;
 use fit_nodes::is_constant;
 use fit_nodes::is_expression;
 use fit_nodes::is_statement;
+use records::format::VARIABLE_ENTRIES;
 use state_words::Control;
 use state_words::Ref;
 use varset::VarSet;
@@ -18,6 +19,7 @@ ghost use mathlib.Core.Path.{_≡_};
 ghost use mathlib.Core.Bool.{false};
 ghost use Prim.Native.Nat.{ℕ, _+_, _*_, _≤_};
 ghost use lib.ListN.{length};
+ghost use Rattle.spec_image.specs.Sizes.{frameSize, frameRoom, framesAt, size};
 ghost use Rattle.varset.specs.Sets.{has};
 ghost use Rattle.words.specs.Stacks.{entries, chain};
 ghost use Rattle.check_scopes.specs.Counts.{Decls};
@@ -50,7 +52,7 @@ pub fn frames_fit(
     f: usize,
     part: &[u8],
     n: usize,
-    decls: &[usize; 64],
+    decls: &[usize; VARIABLE_ENTRIES],
     table: &[u64],
     m: &[u32],
     low: usize,
@@ -58,8 +60,8 @@ pub fn frames_fit(
     d: Received,
 ) -> bool
     requires part { ⌜ Part (now file) f (now part) n × Decls (now part) n (now decls) × TableSays (now part) n (now table) ⌝ }
-    requires room { ⌜ (16384 ≤ length (now m)) × (low + k ≤ 512) ⌝ }
-    ensures { λ r. ⌜ r ≡ chain (frameFits (programOf (now (file .entry))) f) (handsOn (programOf (now (file .entry))) f) ends (incomingIs d) (entries 20 frameOf (now (m .entry)) (4480 + low * 20) k) ⌝ }
+    requires room { ⌜ (size ≤ length (now m)) × (low + k ≤ frameRoom) ⌝ }
+    ensures { λ r. ⌜ r ≡ chain (frameFits (programOf (now (file .entry))) f) (handsOn (programOf (now (file .entry))) f) ends (incomingIs d) (entries frameSize frameOf (now (m .entry)) (framesAt + low * frameSize) k) ⌝ }
 {
     let mut i = k;
     let mut down = d;
@@ -90,7 +92,7 @@ fn begin_expression(
     f: usize,
     part: &[u8],
     n: usize,
-    decls: &[usize; 64],
+    decls: &[usize; VARIABLE_ENTRIES],
     table: &[u64],
     x: u32,
     set: VarSet,
@@ -140,7 +142,7 @@ pub fn begin(
     f: usize,
     part: &[u8],
     n: usize,
-    decls: &[usize; 64],
+    decls: &[usize; VARIABLE_ENTRIES],
     table: &[u64],
     set: VarSet,
     c: Control,

@@ -6,6 +6,7 @@ mod statements;
 use crate::operands::gathers;
 use crate::operands::node_suits;
 use check_types::operator_type;
+use records::format::VARIABLE_ENTRIES;
 use records::function_count;
 use records::mask_of;
 use records::params_of;
@@ -17,6 +18,7 @@ ghost use mathlib.Core.Path.{_≡_};
 ghost use mathlib.Core.Bool.{true, false};
 ghost use Prim.Native.Nat.{_+_, _≤_, _<_};
 ghost use lib.ListN.{length, getD};
+ghost use Rattle.spec_image.specs.Sizes.{frameRoom, size};
 ghost use Rattle.varset.specs.Sets.{has};
 ghost use Rattle.check_scopes.specs.Counts.{Decls};
 ghost use Rattle.spec_machine.specs.Program.{op, fn};
@@ -81,14 +83,14 @@ fn operator_step(
     f: usize,
     part: &[u8],
     n: usize,
-    decls: &[usize; 64],
+    decls: &[usize; VARIABLE_ENTRIES],
     table: &[u64],
     m: &[u32],
     i: usize,
     d: Received,
 ) -> Next
     requires part { ⌜ Part (now file) f (now part) n × Decls (now part) n (now decls) × TableSays (now part) n (now table) ⌝ }
-    requires room { ⌜ (16384 ≤ length (now m)) × (i < 512) ⌝ }
+    requires room { ⌜ (size ≤ length (now m)) × (i < frameRoom) ⌝ }
     ensures { λ r. ⌜ Steps (programOf (now (file .entry))) f d (operands (op (getD (now (m .entry)) (frameAt i + 1) 0)) (getD (now (m .entry)) (frameAt i + 2) 0) (getD (now (m .entry)) (frameAt i + 3) 0) (slotsIn (now (m .entry)) i)) r ⌝ }
 {
     let x = frame_word(m, i, 1);
@@ -110,14 +112,14 @@ fn call_step(
     f: usize,
     part: &[u8],
     n: usize,
-    decls: &[usize; 64],
+    decls: &[usize; VARIABLE_ENTRIES],
     table: &[u64],
     m: &[u32],
     i: usize,
     d: Received,
 ) -> Next
     requires part { ⌜ Part (now file) f (now part) n × Decls (now part) n (now decls) × TableSays (now part) n (now table) ⌝ }
-    requires room { ⌜ (16384 ≤ length (now m)) × (i < 512) ⌝ }
+    requires room { ⌜ (size ≤ length (now m)) × (i < frameRoom) ⌝ }
     ensures { λ r. ⌜ Steps (programOf (now (file .entry))) f d (operands (fn (getD (now (m .entry)) (frameAt i + 1) 0)) (getD (now (m .entry)) (frameAt i + 2) 0) (getD (now (m .entry)) (frameAt i + 3) 0) (slotsIn (now (m .entry)) i)) r ⌝ }
 {
     let g = frame_word(m, i, 1) as usize;
@@ -153,7 +155,7 @@ fn and_step(
     f: usize,
     part: &[u8],
     n: usize,
-    decls: &[usize; 64],
+    decls: &[usize; VARIABLE_ENTRIES],
     table: &[u64],
     x: u32,
     d: Received,
@@ -187,14 +189,14 @@ pub fn frame_step(
     f: usize,
     part: &[u8],
     n: usize,
-    decls: &[usize; 64],
+    decls: &[usize; VARIABLE_ENTRIES],
     table: &[u64],
     m: &[u32],
     i: usize,
     d: Received,
 ) -> Next
     requires part { ⌜ Part (now file) f (now part) n × Decls (now part) n (now decls) × TableSays (now part) n (now table) ⌝ }
-    requires room { ⌜ (16384 ≤ length (now m)) × (i < 512) ⌝ }
+    requires room { ⌜ (size ≤ length (now m)) × (i < frameRoom) ⌝ }
     ensures { λ r. ⌜ Steps (programOf (now (file .entry))) f d (frameIn (now (m .entry)) i) r ⌝ }
 {
     let kind = frame_word(m, i, 0);

@@ -2,11 +2,13 @@
 use fit_flow::reads_held;
 use fit_nodes::expression_type;
 use fit_nodes::is_expression;
+use records::format::VARIABLE_ENTRIES;
 use state_words::frames::frame_word;
 use varset::VarSet;
 ghost use mathlib.Core.Path.{_≡_};
 ghost use Prim.Native.Nat.{ℕ, _+_, _*_, _-_, _≤_, _<_};
 ghost use lib.ListN.{length, getD, drop};
+ghost use Rattle.spec_image.specs.Sizes.{frameRoom, size};
 ghost use Rattle.varset.specs.Sets.{has};
 ghost use Rattle.check_scopes.specs.Counts.{Decls};
 ghost use Rattle.spec_machine.specs.Values.{typeV};
@@ -39,7 +41,7 @@ pub fn tag_type(tag: u32) -> u8
 
 // Whether the first y slots of a frame hold values of the types wanted.
 fn values_suit(m: &[u32], i: usize, mask: u8, y: usize) -> bool
-    requires { ⌜ (16384 ≤ length (now m)) × (i < 512) × (y < 8) ⌝ }
+    requires { ⌜ (size ≤ length (now m)) × (i < frameRoom) × (y < 8) ⌝ }
     ensures { λ r. ⌜ r ≡ valuesSuit (wantOf mask) 0 (valuesOf y (slotsIn (now (m .entry)) i)) ⌝ }
 {
     let mut k = 0;
@@ -58,7 +60,7 @@ pub fn node_suits(
     f: usize,
     part: &[u8],
     n: usize,
-    decls: &[usize; 64],
+    decls: &[usize; VARIABLE_ENTRIES],
     table: &[u64],
     want: u8,
     x: u32,
@@ -82,7 +84,7 @@ fn nodes_suit(
     f: usize,
     part: &[u8],
     n: usize,
-    decls: &[usize; 64],
+    decls: &[usize; VARIABLE_ENTRIES],
     table: &[u64],
     m: &[u32],
     i: usize,
@@ -92,7 +94,7 @@ fn nodes_suit(
     set: VarSet,
 ) -> bool
     requires part { ⌜ Part (now file) f (now part) n × Decls (now part) n (now decls) × TableSays (now part) n (now table) ⌝ }
-    requires room { ⌜ (16384 ≤ length (now m)) × (i < 512) × (y ≤ end) × (end < 8) ⌝ }
+    requires room { ⌜ (size ≤ length (now m)) × (i < frameRoom) × (y ≤ end) × (end < 8) ⌝ }
     ensures { λ r. ⌜ r ≡ nodesSuit (programOf (now (file .entry))) f (has (set .0)) (wantOf mask) (y + 1) (nodesOf (end - y) (drop (2 * y) (slotsIn (now (m .entry)) i))) ⌝ }
 {
     let mut j = y;
@@ -122,7 +124,7 @@ pub fn gathers(
     f: usize,
     part: &[u8],
     n: usize,
-    decls: &[usize; 64],
+    decls: &[usize; VARIABLE_ENTRIES],
     table: &[u64],
     m: &[u32],
     i: usize,
@@ -132,7 +134,7 @@ pub fn gathers(
     set: VarSet,
 ) -> bool
     requires part { ⌜ Part (now file) f (now part) n × Decls (now part) n (now decls) × TableSays (now part) n (now table) ⌝ }
-    requires room { ⌜ (16384 ≤ length (now m)) × (i < 512) × (count ≤ 8) ⌝ }
+    requires room { ⌜ (size ≤ length (now m)) × (i < frameRoom) × (count ≤ 8) ⌝ }
     ensures { λ r. ⌜ r ≡ gathered (programOf (now (file .entry))) f (has (set .0)) (wantOf mask) count kind (valuesOf (getD (now (m .entry)) (frameAt i + 2) 0) (slotsIn (now (m .entry)) i)) (nodesOf (getD (now (m .entry)) (frameAt i + 3) 0) (drop (2 * getD (now (m .entry)) (frameAt i + 2) 0) (slotsIn (now (m .entry)) i))) ⌝ }
 {
     let y = frame_word(m, i, 2);

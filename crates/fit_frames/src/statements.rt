@@ -7,6 +7,7 @@ use fit_flow::returning;
 use fit_flow::through;
 use fit_nodes::is_statement;
 use fit_nodes::variable_type;
+use records::format::VARIABLE_ENTRIES;
 use records::result_of;
 use records::vars_of;
 use records::wide;
@@ -60,7 +61,7 @@ pub fn store_step(
     f: usize,
     part: &[u8],
     n: usize,
-    decls: &[usize; 64],
+    decls: &[usize; VARIABLE_ENTRIES],
     x: u32,
     d: Received,
 ) -> Next

@@ -6,6 +6,7 @@ use lib.Dec.{eqb, ltb, leb}
 use lib.ListN.{getD, take, drop}
 use Rattle.varset.specs.Lowest.{pick}
 use Rattle.words.specs.Blocks.{allZero}
+use Rattle.spec_image.specs.Sizes.{slotsFrom, slotRoom, variablesFrom, variableRoom}
 
 -- a value: nothing is two zeros, an int has any word, a bool has 0 or 1
 unfoldable pub valueOk : ℕ → ℕ → Bool
@@ -27,17 +28,17 @@ controlOk form word = getD (false ∷ eqb word 0 ∷ true ∷ ltb word 2 ∷ tru
 
 -- y values, z nodes, and zeros: at most 7 operands in the words after a frame's first four
 unfoldable pub operandsOk : ℕ → ℕ → List ℕ → Bool
-operandsOk y z slots = leb (y + z) 7 && (valuesOk y slots && (nodesOk z (drop (2 * y) slots) && allZero (drop (2 * y + 2 * z) slots)))
+operandsOk y z slots = leb (y + z) slotRoom && (valuesOk y slots && (nodesOk z (drop (2 * y) slots) && allZero (drop (2 * y + 2 * z) slots)))
 
 -- a frame of 20 words, by its kind: 1 and 2 gather operands, 3 to 5 use one word, 6 uses two, 7 to 9 none
 unfoldable pub frameOk : List ℕ → Bool
 frameOk b =
     let kind = getD b 0 0 in
-    pick (ltb kind 3) (ltb 0 kind && operandsOk (getD b 2 0) (getD b 3 0) (drop 4 b))
+    pick (ltb kind 3) (ltb 0 kind && operandsOk (getD b 2 0) (getD b 3 0) (drop slotsFrom b))
     (pick (ltb kind 6) (allZero (drop 2 b))
     (pick (ltb kind 7) (allZero (drop 3 b))
     (ltb kind 10 && allZero (drop 1 b))))
 
 -- an activation of 136 words: at most 64 variables, five zeros before them, and zeros after them
 unfoldable pub activationOk : List ℕ → Bool
-activationOk b = leb (getD b 2 0) 64 && (allZero (take 5 (drop 3 b)) && (valuesOk (getD b 2 0) (drop 8 b) && allZero (drop (2 * getD b 2 0) (drop 8 b))))
+activationOk b = leb (getD b 2 0) variableRoom && (allZero (take 5 (drop 3 b)) && (valuesOk (getD b 2 0) (drop variablesFrom b) && allZero (drop (2 * getD b 2 0) (drop variablesFrom b))))

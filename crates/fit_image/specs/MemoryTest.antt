@@ -9,6 +9,7 @@ use Rattle.words.specs.Stacks.{blockAt}
 use Rattle.spec_machine.specs.Fit.{callerLimit, frameLimit}
 use Rattle.spec_image.specs.Decode.{heldIn}
 use Rattle.fit_image.specs.BlockTests.{controlOk, frameOk, activationOk}
+use Rattle.spec_image.specs.Sizes.{activationSize, callerRoom, frameSize, frameRoom, spareSize, activationsAt, framesAt, spareAt}
 
 module _ (w : ℕ) (ok : List ℕ → Bool) where
   -- n blocks of w words from a place on pass a test
@@ -29,11 +30,11 @@ headOk l = tagOk (getD l 0 0) (getD l 1 0) (getD l 2 0) (getD l 3 0) (getD l 4 0
 
 -- n activations, and zeros above them
 unfoldable pub activationsOk : List ℕ → ℕ → Bool
-activationsOk l n = passing 136 activationOk l 128 n && allZero (take ((32 - n) * 136) (drop (128 + n * 136) l))
+activationsOk l n = passing activationSize activationOk l activationsAt n && allZero (take ((callerRoom - n) * activationSize) (drop (activationsAt + n * activationSize) l))
 
 -- n frames, zeros above them, and the zeros at the end
 unfoldable pub framesOk : List ℕ → ℕ → Bool
-framesOk l n = passing 20 frameOk l 4480 n && (allZero (take ((512 - n) * 20) (drop (4480 + n * 20) l)) && allZero (take 1664 (drop 14720 l)))
+framesOk l n = passing frameSize frameOk l framesAt n && (allZero (take ((frameRoom - n) * frameSize) (drop (framesAt + n * frameSize) l)) && allZero (take spareSize (drop spareAt l)))
 
 -- the head, as many activations as it says, and as many frames as they say, within the limit
 unfoldable pub imageOk : List ℕ → Bool

@@ -1,8 +1,20 @@
 // The memory check's first half: whether the words of a memory are the image of a state.
+use state_words::layout::ACTIVATION_WORDS;
+use state_words::layout::ACTIVATIONS;
+use state_words::layout::CALLER_LIMIT;
+use state_words::layout::FRAME_LIMIT;
+use state_words::layout::FRAME_WORDS;
+use state_words::layout::FRAMES;
+use state_words::layout::SLOT_ROOM;
+use state_words::layout::SLOTS;
+use state_words::layout::SPARE;
+use state_words::layout::VARIABLE_ROOM;
+use state_words::layout::VARIABLES;
 ghost use mathlib.Core.Path.{_≡_};
 ghost use mathlib.Core.Bool.{true};
 ghost use Prim.Native.Nat.{_*_, _≤_, _<_};
 ghost use lib.ListN.{length};
+ghost use Rattle.spec_image.specs.Sizes.{activationSize, callerRoom, frameSize, frameRoom, size};
 ghost use Rattle.spec_machine.specs.Machine.{State};
 ghost use Rattle.spec_machine.specs.Fit.{WithinLimits};
 ghost use Rattle.spec_image.specs.Decode.{stateOf};
@@ -58,10 +70,10 @@ fn operands_ok(s: &[u32], y: u32, z: u32) -> bool
     requires { ⌜ length (now s) ≡ 16 ⌝ }
     ensures { λ r. ⌜ r ≡ operandsOk y z (now (s .entry)) ⌝ }
 {
-    if 7 < y {
+    if SLOT_ROOM < y {
         return false;
     }
-    if 7 - y < z {
+    if SLOT_ROOM - y < z {
         return false;
     }
     let n = y as usize;
@@ -73,7 +85,7 @@ fn operands_ok(s: &[u32], y: u32, z: u32) -> bool
 
 // Whether 20 words are a frame's.
 fn frame_ok(b: &[u32]) -> bool
-    requires { ⌜ length (now b) ≡ 20 ⌝ }
+    requires { ⌜ length (now b) ≡ frameSize ⌝ }
     ensures { λ r. ⌜ r ≡ frameOk (now (b .entry)) ⌝ }
 {
     let kind = b[0];
@@ -81,7 +93,7 @@ fn frame_ok(b: &[u32]) -> bool
         if kind < 1 {
             return false;
         }
-        return operands_ok(&b[4..], b[2], b[3]);
+        return operands_ok(&b[SLOTS..], b[2], b[3]);
     }
     if kind < 6 {
         return words::all_zero(&b[2..]);
@@ -97,16 +109,16 @@ fn frame_ok(b: &[u32]) -> bool
 
 // Whether 136 words are an activation's.
 fn activation_ok(b: &[u32]) -> bool
-    requires { ⌜ length (now b) ≡ 136 ⌝ }
+    requires { ⌜ length (now b) ≡ activationSize ⌝ }
     ensures { λ r. ⌜ r ≡ activationOk (now (b .entry)) ⌝ }
 {
     let count = b[2];
-    if 64 < count {
+    if VARIABLE_ROOM < count {
         return false;
     }
     let n = count as usize;
-    let end = 8 + 2 * n;
-    words::all_zero(&b[3..8]) & (values_ok(&b[8..], n) & words::all_zero(&b[end..]))
+    let end = VARIABLES + 2 * n;
+    words::all_zero(&b[3..VARIABLES]) & (values_ok(&b[VARIABLES..], n) & words::all_zero(&b[end..]))
 }
 
 // Whether a form and a word are a control's.
@@ -131,7 +143,7 @@ fn tag_ok(tag: u32, int: u32, count: u32, form: u32, word: u32) -> bool
     let plain = (count == 0) & ((form == 0) & (word == 0));
     match tag {
         1 => zero & plain,
-        2 => zero & ((1 <= count) & ((count <= 32) & control_ok(form, word))),
+        2 => zero & ((1 <= count) & ((count <= CALLER_LIMIT) & control_ok(form, word))),
         3 => plain,
         4 => plain,
         5 => zero & plain,
@@ -142,28 +154,28 @@ fn tag_ok(tag: u32, int: u32, count: u32, form: u32, word: u32) -> bool
 
 // Whether the first 128 words are a head.
 fn head_ok(m: &[u32]) -> bool
-    requires { ⌜ 16384 ≤ length (now m) ⌝ }
+    requires { ⌜ size ≤ length (now m) ⌝ }
     ensures { λ r. ⌜ r ≡ headOk (now (m .entry)) ⌝ }
 {
-    tag_ok(m[0], m[1], m[2], m[3], m[4]) & words::all_zero(&m[5..128])
+    tag_ok(m[0], m[1], m[2], m[3], m[4]) & words::all_zero(&m[5..HEAD_WORDS])
 }
 
 // Whether n activations, and zeros above them, lie in their room.
 fn activations_ok(m: &[u32], n: usize) -> bool
-    requires { ⌜ (16384 ≤ length (now m)) × (n ≤ 32) ⌝ }
+    requires { ⌜ (size ≤ length (now m)) × (n ≤ callerRoom) ⌝ }
     ensures { λ r. ⌜ r ≡ activationsOk (now (m .entry)) n ⌝ }
 {
     let mut i = n;
     while 0 < i {
         i -= 1;
-        let at = 128 + i * 136;
-        let end = at + 136;
+        let at = ACTIVATIONS + i * ACTIVATION_WORDS;
+        let end = at + ACTIVATION_WORDS;
         if !activation_ok(&m[at..end]) {
             return false;
         }
     }
-    let top = 128 + n * 136;
-    words::all_zero(&m[top..4480])
+    let top = ACTIVATIONS + n * ACTIVATION_WORDS;
+    words::all_zero(&m[top..FRAMES])
 }
 
 // A word as a number.
@@ -175,25 +187,25 @@ fn wide(x: u32) -> usize
 
 // Whether n frames, and zeros above them, lie in their room, and zeros after it.
 fn frames_ok(m: &[u32], n: usize) -> bool
-    requires { ⌜ (16384 ≤ length (now m)) × (n ≤ 512) ⌝ }
+    requires { ⌜ (size ≤ length (now m)) × (n ≤ frameRoom) ⌝ }
     ensures { λ r. ⌜ r ≡ framesOk (now (m .entry)) n ⌝ }
 {
     let mut i = n;
     while 0 < i {
         i -= 1;
-        let at = 4480 + i * 20;
-        let end = at + 20;
+        let at = FRAMES + i * FRAME_WORDS;
+        let end = at + FRAME_WORDS;
         if !frame_ok(&m[at..end]) {
             return false;
         }
     }
-    let top = 4480 + n * 20;
-    words::all_zero(&m[top..14720]) & words::all_zero(&m[14720..16384])
+    let top = FRAMES + n * FRAME_WORDS;
+    words::all_zero(&m[top..SPARE]) & words::all_zero(&m[SPARE..IMAGE_WORDS])
 }
 
 // Whether head, activations and frames pass their tests.
 fn image_ok(m: &[u32]) -> bool
-    requires { ⌜ 16384 ≤ length (now m) ⌝ }
+    requires { ⌜ size ≤ length (now m) ⌝ }
     ensures { λ r. ⌜ r ≡ imageOk (now (m .entry)) ⌝ }
 {
     if !head_ok(m) {
@@ -204,7 +216,7 @@ fn image_ok(m: &[u32]) -> bool
         return false;
     }
     let total = state_words::activations::frames_held(m, n);
-    if 512 < total {
+    if FRAME_LIMIT < total {
         return false;
     }
     frames_ok(m, total)
@@ -212,7 +224,7 @@ fn image_ok(m: &[u32]) -> bool
 
 // Whether the first 16,384 words are the image of a state within the limits and narrow; it is then the state that they stand for.
 pub fn holds_image(m: &[u32]) -> bool
-    requires { ⌜ 16384 ≤ length (now m) ⌝ }
+    requires { ⌜ size ≤ length (now m) ⌝ }
     ensures sound { λ r. ⌜ (r ≡ true → Holds (now (m .entry)) (stateOf (now (m .entry))) × WithinLimits (stateOf (now (m .entry))) × Narrow (stateOf (now (m .entry)))) ⌝ }
     ensures complete { λ r. ⌜ ((s : State) → WithinLimits s → Narrow s → Holds (now (m .entry)) s → r ≡ true) ⌝ }
 {

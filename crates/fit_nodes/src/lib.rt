@@ -1,4 +1,5 @@
 // Facts of one node of an accepted file: its sort and its type.
+use records::format::VARIABLE_ENTRIES;
 use records::nodes::kind_at;
 use state_words::Ref;
 ghost use mathlib.Core.Path.{_≡_};
@@ -29,7 +30,7 @@ fn is_among(part: &[u8], n: usize, i: u32, low: u8, high: u8) -> bool
 }
 
 // The decl of each variable of function f's part.
-pub fn decls_of(file: &[u8], f: usize, part: &[u8], n: usize) -> [usize; 64]
+pub fn decls_of(file: &[u8], f: usize, part: &[u8], n: usize) -> [usize; VARIABLE_ENTRIES]
     requires { ⌜ Part (now file) f (now part) n ⌝ }
     ensures { λ r. ⌜ Decls (now (part .entry)) n r ⌝ }
 {
@@ -42,7 +43,7 @@ pub fn variable_type(
     f: usize,
     part: &[u8],
     n: usize,
-    decls: &[usize; 64],
+    decls: &[usize; VARIABLE_ENTRIES],
     x: u32,
 ) -> u8
     requires { ⌜ Part (now file) f (now part) n × (Decls (now part) n (now decls)) × (x < varsOf (now file) f) ⌝ }
@@ -79,7 +80,7 @@ pub fn expression_type(
     f: usize,
     part: &[u8],
     n: usize,
-    decls: &[usize; 64],
+    decls: &[usize; VARIABLE_ENTRIES],
     i: u32,
 ) -> u8
     requires { ⌜ Part (now file) f (now part) n × (Decls (now part) n (now decls)) × (exprIn (programOf (now file)) f i ≡ true) ⌝ }

@@ -20,6 +20,7 @@ use Rattle.fit_state.specs.declared.Over as code
 use Rattle.fit_state.specs.declared.Over.the-variants.{Running, Calling}
 use Rattle.fit_state.specs.declared.Variables.{Variables}
 use Rattle.fit_state.specs.Activations.{Over, at, calls, overOk, handed}
+use Rattle.spec_image.specs.Sizes.{activationSize, frameSize, activationsAt, framesAt, variablesFrom}
 
 -- what stands over an activation's frames
 unfoldable pub overIs : code.Over → Over
@@ -33,7 +34,7 @@ pub record OverAnswer (P : Program) (f : ℕ) (d : Set) (o : Over) (r : Next) : 
 
 -- the first v variables of the activation with a activations under it
 abbrev pub variablesIn : List ℕ → ℕ → ℕ → List Value
-variablesIn m a v = valuesOf v (drop 8 (blockAt 136 m 128 a))
+variablesIn m a v = valuesOf v (drop variablesFrom (blockAt activationSize m activationsAt a))
 
 -- the answer to its variables
 pub record VariablesAnswer (P : Program) (f : ℕ) (η : List Value) (r : Variables) : Type 0 where
@@ -42,8 +43,8 @@ pub record VariablesAnswer (P : Program) (f : ℕ) (η : List Value) (r : Variab
 
 -- the activation with a activations under it
 abbrev pub activationIn : List ℕ → ℕ → Activation
-activationIn m a = activationOf (blockAt 136 m 128 a)
+activationIn m a = activationOf (blockAt activationSize m activationsAt a)
 
 -- the first n frames, the last first
 abbrev pub framesTo : List ℕ → ℕ → List Frame
-framesTo m n = entries 20 frameOf m 4480 n
+framesTo m n = entries frameSize frameOf m framesAt n

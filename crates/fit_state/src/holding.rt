@@ -2,12 +2,15 @@
 use crate::Variables;
 use fit_frames::operands::tag_type;
 use fit_nodes::variable_type;
+use records::format::VARIABLE_ENTRIES;
 use state_words::activations::activation_word;
 use varset::VarSet;
 ghost use mathlib.Core.Path.{_≡_};
 ghost use Prim.Native.Nat.{ℕ, _≤_, _<_};
 ghost use lib.Dec.{eqb};
 ghost use lib.ListN.{length};
+ghost use Rattle.records.specs.Format.{mostVariables};
+ghost use Rattle.spec_image.specs.Sizes.{callerRoom, size, variableRoom};
 ghost use Rattle.varset.specs.Lowest.{pick};
 ghost use Rattle.varset.specs.Sets.{has, with};
 ghost use Rattle.records.specs.Fields.{varsOf};
@@ -25,7 +28,7 @@ fn variable_holds(
     f: usize,
     part: &[u8],
     n: usize,
-    decls: &[usize; 64],
+    decls: &[usize; VARIABLE_ENTRIES],
     tag: u32,
     x: u32,
 ) -> bool
@@ -40,7 +43,7 @@ fn variable_holds(
 
 // The set with x added where the value, by the first of its words, is not nothing.
 fn with_value(set: VarSet, tag: u32, x: u32) -> VarSet
-    requires { ⌜ x < 64 ⌝ }
+    requires { ⌜ x < mostVariables ⌝ }
     ensures { λ r. ⌜ has (r .0) ≡ pick (eqb tag 0) (has (set .0)) (with (has (set .0)) x) ⌝ }
 {
     if tag == 0 {
@@ -55,13 +58,13 @@ pub fn variables_hold(
     f: usize,
     part: &[u8],
     n: usize,
-    decls: &[usize; 64],
+    decls: &[usize; VARIABLE_ENTRIES],
     m: &[u32],
     a: usize,
     v: u32,
 ) -> Variables
     requires part { ⌜ Part (now file) f (now part) n × Decls (now part) n (now decls) ⌝ }
-    requires room { ⌜ (16384 ≤ length (now m)) × (a < 32) × (v ≡ varsOf (now file) f) × (v ≤ 64) ⌝ }
+    requires room { ⌜ (size ≤ length (now m)) × (a < callerRoom) × (v ≡ varsOf (now file) f) × (v ≤ variableRoom) ⌝ }
     ensures { λ r. ⌜ VariablesAnswer (programOf (now (file .entry))) f (variablesIn (now (m .entry)) a v) r ⌝ }
 {
     let mut set = VarSet::empty();

@@ -7,6 +7,8 @@ use fit_frames::descent::frames_fit;
 use fit_frames::giving;
 use fit_nodes::decls_of;
 use records::count_of;
+use records::format::MOST_FUNCTIONS;
+use records::format::VARIABLE_ENTRIES;
 use records::function_count;
 use records::result_of;
 use records::starts::starts_of;
@@ -16,12 +18,14 @@ use state_words::Control;
 use state_words::activations::activation_word;
 use state_words::activations::frames_held;
 use state_words::control_of;
+use state_words::layout::TAG_RUNNING;
 use varset::VarSet;
 ghost use mathlib.Core.Path.{_≡_};
 ghost use mathlib.Core.Bool.{true, _&&_};
 ghost use mathlib.Core.List.{List, _++_};
 ghost use Prim.Native.Nat.{ℕ, _+_, _*_, _≤_, _<_};
 ghost use lib.ListN.{length, getD};
+ghost use Rattle.spec_image.specs.Sizes.{callerRoom, frameSize, frameRoom, framesAt, size, variableRoom};
 ghost use Rattle.varset.specs.Sets.{has};
 ghost use Rattle.records.specs.Fields.{functions, varsOf, countOf};
 ghost use Rattle.records.specs.Parts.{partOf};
@@ -62,7 +66,7 @@ fn over_frames(
     f: usize,
     part: &[u8],
     n: usize,
-    decls: &[usize; 64],
+    decls: &[usize; VARIABLE_ENTRIES],
     table: &[u64],
     set: VarSet,
     over: Over,
@@ -94,8 +98,8 @@ fn activation_in(
     over: Over,
 ) -> bool
     requires part { ⌜ Part (now file) f (now part) n × TableSays (now part) n (now table) ⌝ }
-    requires room { ⌜ (16384 ≤ length (now m)) × (a < 32) × (v ≡ varsOf (now file) f) × (v ≤ 64) × (low + k ≤ 512) ⌝ }
-    ensures { λ r. ⌜ r ≡ (allHoldTyped (variablesIn (now (m .entry)) a v) (varTypes (programOf (now (file .entry)) .fun f)) && framesFit (programOf (now (file .entry))) f (held (variablesIn (now (m .entry)) a v)) (overIs over) (entries 20 frameOf (now (m .entry)) (4480 + low * 20) k)) ⌝ }
+    requires room { ⌜ (size ≤ length (now m)) × (a < callerRoom) × (v ≡ varsOf (now file) f) × (v ≤ variableRoom) × (low + k ≤ frameRoom) ⌝ }
+    ensures { λ r. ⌜ r ≡ (allHoldTyped (variablesIn (now (m .entry)) a v) (varTypes (programOf (now (file .entry)) .fun f)) && framesFit (programOf (now (file .entry))) f (held (variablesIn (now (m .entry)) a v)) (overIs over) (entries frameSize frameOf (now (m .entry)) (framesAt + low * frameSize) k)) ⌝ }
 {
     let decls = decls_of(file, f, part, n);
     let vars = holding::variables_hold(file, f, part, n, &decls, m, a, v);
@@ -127,8 +131,8 @@ fn activation_with(
     over: Over,
 ) -> bool
     requires part { ⌜ Part (now file) f (now part) n × (5 * n ≤ length (now table)) × (last ≡ f → RowsFilled (now part) (now table) n) ⌝ }
-    requires room { ⌜ (16384 ≤ length (now m)) × (a < 32) × (v ≡ varsOf (now file) f) × (v ≤ 64) × (low + k ≤ 512) ⌝ }
-    ensures { λ r. ⌜ r ≡ (allHoldTyped (variablesIn (now (m .entry)) a v) (varTypes (programOf (now (file .entry)) .fun f)) && framesFit (programOf (now (file .entry))) f (held (variablesIn (now (m .entry)) a v)) (overIs over) (entries 20 frameOf (now (m .entry)) (4480 + low * 20) k)) ⌝ }
+    requires room { ⌜ (size ≤ length (now m)) × (a < callerRoom) × (v ≡ varsOf (now file) f) × (v ≤ variableRoom) × (low + k ≤ frameRoom) ⌝ }
+    ensures { λ r. ⌜ r ≡ (allHoldTyped (variablesIn (now (m .entry)) a v) (varTypes (programOf (now (file .entry)) .fun f)) && framesFit (programOf (now (file .entry))) f (held (variablesIn (now (m .entry)) a v)) (overIs over) (entries frameSize frameOf (now (m .entry)) (framesAt + low * frameSize) k)) ⌝ }
     ensures filled { λ _. ⌜ RowsFilled (now (part .entry)) (now (table .exit)) n ⌝ }
 {
     if last == f {
@@ -141,7 +145,7 @@ fn activation_with(
 // Whether the activation over a activations is fit with its frames, the last of the first `high`.
 fn activation_fits(
     file: &[u8],
-    starts: &[usize; 128],
+    starts: &[usize; MOST_FUNCTIONS],
     table: &mut [u64],
     last: usize,
     m: &[u32],
@@ -150,7 +154,7 @@ fn activation_fits(
     over: Over,
 ) -> bool
     requires file { ⌜ (checkOf (now file) ≡ accepted) × Starts (now file) (now starts) ⌝ }
-    requires room { ⌜ (16384 ≤ length (now m)) × (a < 32) × (framesHeld (activationIn (now m) a) ≤ high) × (high ≤ 512) × ((g : ℕ) → g < functions (now file) → 5 * countOf (now file) g ≤ length (now table)) × (last < functions (now file) → RowsFilled (partOf (now file) last) (now table) (countOf (now file) last)) ⌝ }
+    requires room { ⌜ (size ≤ length (now m)) × (a < callerRoom) × (framesHeld (activationIn (now m) a) ≤ high) × (high ≤ frameRoom) × ((g : ℕ) → g < functions (now file) → 5 * countOf (now file) g ≤ length (now table)) × (last < functions (now file) → RowsFilled (partOf (now file) last) (now table) (countOf (now file) last)) ⌝ }
     ensures { λ r. ⌜ r ≡ activationFit (programOf (now (file .entry))) (overIs over) (activationIn (now (m .entry)) a) (framesTo (now (m .entry)) high) ⌝ }
     ensures filled { λ r. ⌜ ((g : ℕ) → g ≡ getD (now (m .entry)) (activationAt a + 0) 0 → r ≡ true → RowsFilled (partOf (now (file .entry)) g) (now (table .exit)) (countOf (now (file .entry)) g)) ⌝ }
 {
@@ -185,7 +189,7 @@ fn activation_fits(
 // Whether the first n activations are fit as the callers of function f, whose table it is, with the first `high` frames.
 fn callers_fit(
     file: &[u8],
-    starts: &[usize; 128],
+    starts: &[usize; MOST_FUNCTIONS],
     table: &mut [u64],
     m: &[u32],
     n: usize,
@@ -193,7 +197,7 @@ fn callers_fit(
     f: usize,
 ) -> bool
     requires file { ⌜ (checkOf (now file) ≡ accepted) × Starts (now file) (now starts) × (f < functions (now file)) ⌝ }
-    requires room { ⌜ (16384 ≤ length (now m)) × (n ≤ 32) × (high ≡ heldIn (now m) n) × (high ≤ 512) × ((g : ℕ) → g < functions (now file) → 5 * countOf (now file) g ≤ length (now table)) × RowsFilled (partOf (now file) f) (now table) (countOf (now file) f) ⌝ }
+    requires room { ⌜ (size ≤ length (now m)) × (n ≤ callerRoom) × (high ≡ heldIn (now m) n) × (high ≤ frameRoom) × ((g : ℕ) → g < functions (now file) → 5 * countOf (now file) g ≤ length (now table)) × RowsFilled (partOf (now file) f) (now table) (countOf (now file) f) ⌝ }
     ensures { λ r. ⌜ r ≡ callersFit (programOf (now (file .entry))) f (activationsTo (now (m .entry)) n) (framesTo (now (m .entry)) high) ⌝ }
 {
     let mut a = n;
@@ -213,7 +217,7 @@ fn callers_fit(
 
 // Whether the running state that the memory holds is fit for the program of the file, with a table for its parts.
 fn running_fits(file: &[u8], table: &mut [u64], m: &[u32]) -> bool
-    requires file { ⌜ (checkOf (now file) ≡ accepted) × (16384 ≤ length (now m)) × HoldsState (now m) × (getD (now m) 0 0 ≡ 2) ⌝ }
+    requires file { ⌜ (checkOf (now file) ≡ accepted) × (size ≤ length (now m)) × HoldsState (now m) × (getD (now m) 0 0 ≡ 2) ⌝ }
     requires table { ⌜ ((g : ℕ) → g < functions (now file) → 5 * countOf (now file) g ≤ length (now table)) ⌝ }
     ensures { λ r. ⌜ ((s : State) (R : List ℕ) → now (m .entry) ≡ image s ++ R → WithinLimits s → Narrow s → r ≡ fit (programOf (now (file .entry))) s) ⌝ }
 {
@@ -222,7 +226,16 @@ fn running_fits(file: &[u8], table: &mut [u64], m: &[u32]) -> bool
     let starts = starts_of(file);
     let a = n - 1;
     let c = control_of(m[3], m[4]);
-    if !activation_fits(file, &starts, table, 128, m, a, high, Over::Running(c)) {
+    if !activation_fits(
+        file,
+        &starts,
+        table,
+        MOST_FUNCTIONS,
+        m,
+        a,
+        high,
+        Over::Running(c),
+    ) {
         return false;
     }
     let f = activation_word(m, a, 0) as usize;
@@ -232,10 +245,10 @@ fn running_fits(file: &[u8], table: &mut [u64], m: &[u32]) -> bool
 
 // Whether the state that the memory holds is fit for the program of the file.
 pub fn fits(file: &[u8], m: &[u32]) -> bool
-    requires { ⌜ (checkOf (now file) ≡ accepted) × (16384 ≤ length (now m)) × HoldsState (now m) ⌝ }
+    requires { ⌜ (checkOf (now file) ≡ accepted) × (size ≤ length (now m)) × HoldsState (now m) ⌝ }
     ensures { λ r. ⌜ ((s : State) (R : List ℕ) → now (m .entry) ≡ image s ++ R → WithinLimits s → Narrow s → r ≡ fit (programOf (now (file .entry))) s) ⌝ }
 {
-    if m[0] != 2 {
+    if m[0] != TAG_RUNNING {
         return true;
     }
     let records = file.len() / 12;

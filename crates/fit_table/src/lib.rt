@@ -13,6 +13,7 @@ ghost use mathlib.Core.Bool.{true, false};
 ghost use mathlib.Core.List.{[], _∷_};
 ghost use Prim.Native.Nat.{_+_, _*_, _≤_, _<_};
 ghost use lib.ListN.{length};
+ghost use Rattle.records.specs.Format.{mostVariables};
 ghost use Rattle.words.specs.Blocks.{puts};
 ghost use Rattle.records.specs.Fields.{kindAt, bAt};
 ghost use Rattle.spec_language.specs.Sorts.{isExpression};
@@ -73,7 +74,7 @@ fn put_row(table: &mut [u64], i: usize, flags: u64, r: Row)
 
 // The variable that node i reads itself.
 fn own_read(part: &[u8], i: usize) -> VarSet
-    requires { ⌜ (12 * i + 12 ≤ length (now part)) × (kindAt (now part) i ≡ 2 → bAt (now part) i < 64) ⌝ }
+    requires { ⌜ (12 * i + 12 ≤ length (now part)) × (kindAt (now part) i ≡ 2 → bAt (now part) i < mostVariables) ⌝ }
     ensures { λ r. ⌜ Range (now (part .entry)) i (i + 1) (r .0) ⌝ }
 {
     if kind_at(part, i) == 2 {

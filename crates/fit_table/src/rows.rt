@@ -5,6 +5,7 @@ ghost use mathlib.Core.Bool.{true, false};
 ghost use mathlib.Core.List.{List};
 ghost use mathlib.Core.Logic.{_↔_};
 ghost use Prim.Native.Nat.{_<_};
+ghost use Rattle.records.specs.Format.{mostVariables};
 ghost use Rattle.varset.specs.Sets.{has, none};
 ghost use Rattle.spec_language.specs.Statements.{Read, Statement, Seq, Decl, If, While};
 ghost use Rattle.fit_table.specs.Summary.{Needs};
@@ -113,7 +114,7 @@ pub fn in_loop(condition: VarSet, body: Row) -> Row
 
 // A statement in the scope of x.
 pub fn in_scope(inner: Row, x: u32) -> Row
-    requires { ⌜ x < 64 ⌝ }
+    requires { ⌜ x < mostVariables ⌝ }
     ensures { λ r. ⌜ ((s : Statement) → Sums s inner → Sums (Decl x s) r) ⌝ }
 {
     let needs = inner.needs;

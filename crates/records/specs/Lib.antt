@@ -1,3 +1,4 @@
+pub mod Format
 pub mod Bytes
 pub mod Fields
 pub mod Parts

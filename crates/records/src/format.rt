@@ -10,14 +10,21 @@ pub const FUNCTION_MARK: u32 = 20038;
 
 pub const NODE_MARK: u32 = 17486;
 
-// The most functions, nodes, parameters and variables.
+// The most functions and nodes of a file, parameters and variables of a function, and how many kinds and operators there are.
 pub const MOST_FUNCTIONS: usize = 128;
 
 pub const MOST_NODES: usize = 4096;
 
-pub const MOST_PARAMETERS: usize = 8;
+pub const MOST_PARAMETERS: u8 = 8;
 
-pub const MOST_VARIABLES: usize = 64;
+pub const MOST_VARIABLES: u8 = 64;
+
+pub const KINDS: usize = 16;
+
+pub const OPERATORS: u8 = 16;
+
+// The entries of a table by variable.
+pub const VARIABLE_ENTRIES: usize = 64;
 
 // The bytes of the shortest file and of the longest, and so many as a program keeps, one more.
 pub const SHORTEST_FILE: usize = 36;

@@ -1,4 +1,4 @@
-// The records of a procedure file: numbers in bytes, fields, and where a node's children stand.
+// The records of a procedure file: numbers in bytes, the fields of the header and of functions, and what a search finds.
 pub mod format;
 pub mod nodes;
 pub mod starts;

@@ -14,6 +14,7 @@ use Rattle.spec_image.specs.Layout.{filled}
 use Rattle.spec_image.specs.Image.{headWords, activationsOf, framesOf, image}
 use Rattle.run_loop.specs.declared.Outcome.{Outcome}
 use Rattle.run_loop.specs.declared.Outcome.the-variants.{Value, Arith, Abort, Spent, Full}
+use Rattle.spec_image.specs.Sizes.{headSize}
 
 -- the outcomes as the code has them: the int of a value is signed
 unfoldable pub outcomeOf : run.Outcome → Outcome
@@ -56,6 +57,6 @@ pub record Ends (k : ℕ) (q : Ran) (outcome : Outcome) (steps : ℕ) (m R : Lis
 
 -- a state with no activation, by the two words of its head
 pub record Rests (s : State) (tag word : ℕ) : Type 0 where
-  pub head : filled 128 (headWords s) ≡ filled 128 (tag ∷ word ∷ [])
+  pub head : filled headSize (headWords s) ≡ filled headSize (tag ∷ word ∷ [])
   pub activations : activationsOf s ≡ []
   pub frames : framesOf s ≡ []

@@ -1,16 +1,28 @@
-// A run in lent memory: the head of the state is taken out, kept in locals while rules are taken, and put back at the end.
+// A run in lent memory: the head of the image is taken out into registers, kept there while rules are taken, and put back at the end.
 use arith::signed;
 use records::count_of;
+use records::format::MOST_FUNCTIONS;
 use records::starts::starts_of;
 use records::vars_of;
 use records::wide;
 use run_rules::Registers;
 use run_rules::Stepped;
 use state_words::Control;
+use state_words::layout::FORM_EVAL;
+use state_words::layout::FORM_EXEC;
+use state_words::layout::FORM_INT;
+use state_words::layout::FORM_NOTHING;
+use state_words::layout::TAG_ABORT;
+use state_words::layout::TAG_ARITH;
+use state_words::layout::TAG_MAIN;
+use state_words::layout::TAG_RETURNED;
+use state_words::layout::TAG_RUNNING;
+use state_words::layout::TAG_VALUE;
 ghost use mathlib.Core.Path.{_≡_};
 ghost use mathlib.Core.List.{List, _++_};
 ghost use Prim.Native.Nat.{ℕ, _+_, _-_, _≤_, _<_};
 ghost use lib.ListN.{length};
+ghost use Rattle.spec_image.specs.Sizes.{size};
 ghost use Rattle.spec_machine.specs.Values as values;
 ghost use Rattle.spec_machine.specs.Program.{Program};
 ghost use Rattle.spec_machine.specs.Machine as machine;
@@ -19,9 +31,8 @@ ghost use Rattle.spec_machine.specs.Run.{runOf};
 ghost use Rattle.spec_machine.specs.Fit.{Fit};
 ghost use Rattle.spec_machine.specs.File.{programOf};
 ghost use Rattle.spec_image.specs.Image.{image};
-ghost use Rattle.spec_image.specs.Core.{core};
 ghost use Rattle.state_words.specs.Meaning.{controlIs};
-ghost use Rattle.run_rules.specs.StepsTo.{Describes, Bounds, Cleared};
+ghost use Rattle.run_rules.specs.StepsTo.{Bounds, Cleared, Holding};
 ghost use Rattle.run_step.specs.StepsBy.{AtFitState};
 ghost use Rattle.run_loop.specs.Runs.{HoldsFit, AtMain, AtRunning, Ends, Rests};
 
@@ -40,17 +51,17 @@ pub struct Ran {
     pub steps: u64,
 }
 
-// Puts the head of a running state back.
+// Puts the registers of a running state back into the head of the image.
 fn put_back(m: &mut [u32], c: Control, h: Registers)
     requires { ⌜ Bounds h (now m) ⌝ }
-    ensures { λ _. ⌜ ((s : List ℕ) (f : ℕ) (η : List values.Value) (K : List Frame) (A : List Saved) (R : List ℕ) → now (m .entry) ≡ core f η K A ++ R → Describes s h f K A → now (m .exit) ≡ image (running (controlIs c) emptyEnv f η K A) ++ R) ⌝ }
+    ensures { λ _. ⌜ ((s : List ℕ) → Holding s (now (m .entry)) h (λ f η K A R. now (m .exit) ≡ image (running (controlIs c) emptyEnv f η K A) ++ R)) ⌝ }
 {
     let a = h.callers;
     let callers = h.callers as u32;
     let frames = h.frames as u32;
     match c {
-        Control::Nothing => state_stack::head::store_head(m, a, callers, frames, 1, 0),
-        Control::Int(word) => state_stack::head::store_head(m, a, callers, frames, 2, word),
+        Control::Nothing => state_stack::head::store_head(m, a, callers, frames, FORM_NOTHING, 0),
+        Control::Int(word) => state_stack::head::store_head(m, a, callers, frames, FORM_INT, word),
         Control::Truth(truth) => state_stack::head::store_head(
             m,
             a,
@@ -59,14 +70,14 @@ fn put_back(m: &mut [u32], c: Control, h: Registers)
             3,
             state_words::bit_of(truth),
         ),
-        Control::Eval(i) => state_stack::head::store_head(m, a, callers, frames, 4, i),
-        Control::Exec(r) => state_stack::head::store_head(m, a, callers, frames, 5, r),
+        Control::Eval(i) => state_stack::head::store_head(m, a, callers, frames, FORM_EVAL, i),
+        Control::Exec(r) => state_stack::head::store_head(m, a, callers, frames, FORM_EXEC, r),
     }
 }
 
 // Puts the head of a state without activations into words that are all zero.
 fn put_rest(m: &mut [u32], tag: u32, word: u32)
-    requires { ⌜ 16384 ≤ length (now m) ⌝ }
+    requires { ⌜ size ≤ length (now m) ⌝ }
     ensures { λ _. ⌜ ((s : State) (R : List ℕ) → Cleared (now (m .entry)) R → Rests s tag word → now (m .exit) ≡ image s ++ R) ⌝ }
 {
     m[0] = tag;
@@ -75,17 +86,17 @@ fn put_rest(m: &mut [u32], tag: u32, word: u32)
 
 // The end of a run that main has returned an int to, after so many steps.
 fn finish(m: &mut [u32], word: u32, steps: u64, allowed: u64) -> Ran
-    requires { ⌜ (16384 ≤ length (now m)) × (steps ≤ allowed) ⌝ }
+    requires { ⌜ (size ≤ length (now m)) × (steps ≤ allowed) ⌝ }
     ensures { λ r. ⌜ ((P : Program) (R : List ℕ) → Cleared (now (m .entry)) R → Ends steps (runOf P (allowed - steps) (machine.returned emptyEnv word)) (r .outcome) (r .steps) (now (m .exit)) R) ⌝ }
 {
     if steps < allowed {
-        put_rest(m, 4, word);
+        put_rest(m, TAG_VALUE, word);
         return Ran {
             outcome: Outcome::Value(signed(word)),
             steps: steps + 1,
         };
     }
-    put_rest(m, 3, word);
+    put_rest(m, TAG_RETURNED, word);
     Ran {
         outcome: Outcome::Spent,
         steps,
@@ -94,7 +105,7 @@ fn finish(m: &mut [u32], word: u32, steps: u64, allowed: u64) -> Ran
 
 // The end of a run by an exception.
 fn fail(m: &mut [u32], tag: u32, outcome: Outcome, steps: u64) -> Ran
-    requires { ⌜ 16384 ≤ length (now m) ⌝ }
+    requires { ⌜ size ≤ length (now m) ⌝ }
     ensures { λ r. ⌜ (r .outcome ≡ outcome) × (r .steps ≡ steps) × ((s : State) (R : List ℕ) → Cleared (now (m .entry)) R → Rests s tag 0 → now (m .exit) ≡ image s ++ R) ⌝ }
 {
     put_rest(m, tag, 0);
@@ -104,7 +115,7 @@ fn fail(m: &mut [u32], tag: u32, outcome: Outcome, steps: u64) -> Ran
 // The end of a run that stops at a running state.
 fn stop(m: &mut [u32], c: Control, h: Registers, outcome: Outcome, steps: u64) -> Ran
     requires { ⌜ Bounds h (now m) ⌝ }
-    ensures { λ r. ⌜ (r .outcome ≡ outcome) × (r .steps ≡ steps) × ((s : List ℕ) (f : ℕ) (η : List values.Value) (K : List Frame) (A : List Saved) (R : List ℕ) → now (m .entry) ≡ core f η K A ++ R → Describes s h f K A → now (m .exit) ≡ image (running (controlIs c) emptyEnv f η K A) ++ R) ⌝ }
+    ensures { λ r. ⌜ (r .outcome ≡ outcome) × (r .steps ≡ steps) × ((s : List ℕ) → Holding s (now (m .entry)) h (λ f η K A R. now (m .exit) ≡ image (running (controlIs c) emptyEnv f η K A) ++ R)) ⌝ }
 {
     put_back(m, c, h);
     Ran { outcome, steps }
@@ -113,15 +124,15 @@ fn stop(m: &mut [u32], c: Control, h: Registers, outcome: Outcome, steps: u64) -
 // Takes rules from a running state on, where some were taken before it.
 fn go(
     file: &[u8],
-    starts: &[usize; 128],
+    starts: &[usize; MOST_FUNCTIONS],
     m: &mut [u32],
     from: Control,
     head: Registers,
     taken: u64,
     allowed: u64,
 ) -> Ran
-    requires { ⌜ AtFitState (now file) (now starts) (controlIs from) head (now m) × (16384 ≤ length (now m)) × (taken ≤ allowed) ⌝ }
-    ensures { λ r. ⌜ ((f : ℕ) (η : List values.Value) (K : List Frame) (A : List Saved) (R : List ℕ) → now (m .entry) ≡ core f η K A ++ R → Describes (now (file .entry)) head f K A → Fit (programOf (now (file .entry))) (running (controlIs from) emptyEnv f η K A) → Ends taken (runOf (programOf (now (file .entry))) (allowed - taken) (running (controlIs from) emptyEnv f η K A)) (r .outcome) (r .steps) (now (m .exit)) R) ⌝ }
+    requires { ⌜ AtFitState (now file) (now starts) (controlIs from) head (now m) × (size ≤ length (now m)) × (taken ≤ allowed) ⌝ }
+    ensures { λ r. ⌜ Holding (now (file .entry)) (now (m .entry)) head (λ f η K A R. Fit (programOf (now (file .entry))) (running (controlIs from) emptyEnv f η K A) → Ends taken (runOf (programOf (now (file .entry))) (allowed - taken) (running (controlIs from) emptyEnv f η K A)) (r .outcome) (r .steps) (now (m .exit)) R) ⌝ }
 {
     let mut c = from;
     let mut h = head;
@@ -135,8 +146,8 @@ fn go(
             }
             Stepped::Full => return stop(m, c, h, Outcome::Full, steps),
             Stepped::Returned(word) => return finish(m, word, steps + 1, allowed),
-            Stepped::Arith => return fail(m, 5, Outcome::Arith, steps + 1),
-            Stepped::Abort => return fail(m, 6, Outcome::Abort, steps + 1),
+            Stepped::Arith => return fail(m, TAG_ARITH, Outcome::Arith, steps + 1),
+            Stepped::Abort => return fail(m, TAG_ABORT, Outcome::Abort, steps + 1),
         }
     }
     stop(m, c, h, Outcome::Spent, steps)
@@ -144,7 +155,7 @@ fn go(
 
 // A run from the int that main has returned.
 fn conclude(m: &mut [u32], word: u32, allowed: u64) -> Ran
-    requires { ⌜ 16384 ≤ length (now m) ⌝ }
+    requires { ⌜ size ≤ length (now m) ⌝ }
     ensures { λ r. ⌜ ((P : Program) (R : List ℕ) → now (m .entry) ≡ image (machine.returned emptyEnv word) ++ R → Ends 0 (runOf P allowed (machine.returned emptyEnv word)) (r .outcome) (r .steps) (now (m .exit)) R) ⌝ }
 {
     m[0] = 0;
@@ -154,7 +165,7 @@ fn conclude(m: &mut [u32], word: u32, allowed: u64) -> Ran
 
 // A run from main() with nothing waiting.
 fn begin(file: &[u8], m: &mut [u32], allowed: u64) -> Ran
-    requires { ⌜ AtMain (now file) (now m) × (16384 ≤ length (now m)) ⌝ }
+    requires { ⌜ AtMain (now file) (now m) × (size ≤ length (now m)) ⌝ }
     ensures { λ r. ⌜ ((R : List ℕ) → now (m .entry) ≡ image (machine.main emptyEnv) ++ R → Ends 0 (runOf (programOf (now (file .entry))) allowed (machine.main emptyEnv)) (r .outcome) (r .steps) (now (m .exit)) R) ⌝ }
 {
     if allowed == 0 {
@@ -183,7 +194,7 @@ fn begin(file: &[u8], m: &mut [u32], allowed: u64) -> Ran
 
 // A run from a running state: its head is taken out of the memory.
 fn proceed(file: &[u8], m: &mut [u32], allowed: u64) -> Ran
-    requires { ⌜ AtRunning (now file) (now m) × (16384 ≤ length (now m)) ⌝ }
+    requires { ⌜ AtRunning (now file) (now m) × (size ≤ length (now m)) ⌝ }
     ensures { λ r. ⌜ ((c : machine.Control) (f : ℕ) (η : List values.Value) (K : List Frame) (A : List Saved) (R : List ℕ) → now (m .entry) ≡ image (running c emptyEnv f η K A) ++ R → Fit (programOf (now (file .entry))) (running c emptyEnv f η K A) → Ends 0 (runOf (programOf (now (file .entry))) allowed (running c emptyEnv f η K A)) (r .outcome) (r .steps) (now (m .exit)) R) ⌝ }
 {
     let starts = starts_of(file);
@@ -206,20 +217,20 @@ fn proceed(file: &[u8], m: &mut [u32], allowed: u64) -> Ran
 
 // Runs the state in the memory, up to so many rules.
 pub fn run(file: &[u8], m: &mut [u32], allowed: u64) -> Ran
-    requires { ⌜ HoldsFit (now file) (now m) × (16384 ≤ length (now m)) ⌝ }
+    requires { ⌜ HoldsFit (now file) (now m) × (size ≤ length (now m)) ⌝ }
     ensures { λ r. ⌜ ((s : State) (R : List ℕ) → now (m .entry) ≡ image s ++ R → Fit (programOf (now (file .entry))) s → Ends 0 (runOf (programOf (now (file .entry))) allowed s) (r .outcome) (r .steps) (now (m .exit)) R) ⌝ }
 {
     let tag = m[0];
     let word = m[1];
     match tag {
-        1 => begin(file, m, allowed),
-        2 => proceed(file, m, allowed),
-        3 => conclude(m, word, allowed),
-        4 => Ran {
+        TAG_MAIN => begin(file, m, allowed),
+        TAG_RUNNING => proceed(file, m, allowed),
+        TAG_RETURNED => conclude(m, word, allowed),
+        TAG_VALUE => Ran {
             outcome: Outcome::Value(signed(word)),
             steps: 0,
         },
-        5 => Ran {
+        TAG_ARITH => Ran {
             outcome: Outcome::Arith,
             steps: 0,
         },

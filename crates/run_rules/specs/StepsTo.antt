@@ -1,4 +1,4 @@
--- What the head of a running state says, and what a step comes to.
+-- What the registers of a running state say, and what a step comes to.
 use mathlib.Core.Path.{_≡_}
 use mathlib.Core.Bool.{true, false}
 use mathlib.Core.List.{List, _∷_, _++_}
@@ -10,12 +10,14 @@ use Rattle.spec_machine.specs.Values.{Value}
 use Rattle.spec_machine.specs.Machine.{arith, abort, Frame, Saved, saved, emptyEnv, State, exception, returned, running}
 use Rattle.spec_machine.specs.Run.{withinLimits}
 use Rattle.spec_image.specs.Image.{savedFrames}
-use Rattle.spec_image.specs.Core.{core}
+use Rattle.spec_image.specs.Core.{core, HoldingCore, HoldingTopCore}
 use Rattle.state_words.specs.declared.Control.{Control}
 use Rattle.state_words.specs.Meaning.{controlIs}
 use Rattle.run_rules.specs.declared.Registers.{Registers}
 use Rattle.run_rules.specs.declared.Stepped.{Stepped}
 use Rattle.run_rules.specs.declared.Stepped.the-variants.{Went, Full, Returned, Arith, Abort}
+use Rattle.spec_image.specs.Sizes.{size}
+use Rattle.spec_machine.specs.Fit.{callerLimit, frameLimit}
 
 -- the current function f with its part's first byte and node count, how many callers and frames there are
 pub record Describes (s : List ℕ) (h : Registers) (f : ℕ) (K : List Frame) (A : List Saved) : Type 0 where
@@ -26,9 +28,17 @@ pub record Describes (s : List ℕ) (h : Registers) (f : ℕ) (K : List Frame) (
   pub frames : h .frames ≡ length K
   pub under : h .under ≡ length (savedFrames A)
 
+-- of every running state that the memory l and the registers h hold
+abbrev pub Holding : List ℕ → List ℕ → Registers → (ℕ → List Value → List Frame → List Saved → List ℕ → Type 0) → Type 0
+Holding s l h say = HoldingCore l (λ f η K A R. Describes s h f K A → say f η K A R)
+
+-- the same of every one with a frame on top
+abbrev pub HoldingTop : List ℕ → List ℕ → Registers → (ℕ → List Value → Frame → List Frame → List Saved → List ℕ → Type 0) → Type 0
+HoldingTop s l h say = HoldingTopCore l (λ f η fr K A R. Describes s h f (fr ∷ K) A → say f η fr K A R)
+
 -- the memory is long enough, and the limits are kept
 abbrev pub Bounds : Registers → List ℕ → Type 0
-Bounds h l = (16384 ≤ length l) × (h .callers < 32) × (h .under + h .frames ≤ 512)
+Bounds h l = (size ≤ length l) × (h .callers < callerLimit) × (h .under + h .frames ≤ frameLimit)
 
 -- the current function was called by a function of the file
 pub record Called (s : List ℕ) (h : Registers) (l : List ℕ) : Type 0 where
@@ -44,7 +54,7 @@ pub record Called (s : List ℕ) (h : Registers) (l : List ℕ) : Type 0 where
   pub tells : Describes s h function frames (saved caller callerVariables callerFrames ∷ callers)
   pub known : caller < functions s
 
--- the state t goes on with the control c, and the memory m and the head h hold the rest of it
+-- the state t goes on with the control c, and the memory m and the registers h hold the rest of it
 pub record Continues (s : List ℕ) (c : Control) (h : Registers) (m R : List ℕ) (t : State) : Type 0 where
   pub function : ℕ
   pub variables : List Value
@@ -57,7 +67,7 @@ pub record Continues (s : List ℕ) (c : Control) (h : Registers) (m R : List �
 
 -- the words of a state are all zero
 abbrev pub Cleared : List ℕ → List ℕ → Type 0
-Cleared m R = (z : ℕ) → z ≡ 16384 → m ≡ replicate z 0 ++ R
+Cleared m R = (z : ℕ) → z ≡ size → m ≡ replicate z 0 ++ R
 
 -- a step to the state t, from the memory l to the memory m
 unfoldable pub StepsTo : List ℕ → Stepped → List ℕ → List ℕ → List ℕ → State → Type 0

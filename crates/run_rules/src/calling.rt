@@ -2,14 +2,18 @@
 use crate::Registers;
 use crate::Stepped;
 use records::count_of;
+use records::format::MOST_FUNCTIONS;
 use records::vars_of;
 use records::wide;
 use state_words::Control;
 use state_words::Value;
+use state_words::layout::SAVED_LIMIT;
 ghost use mathlib.Core.Path.{_≡_};
 ghost use mathlib.Core.List.{List, [], _∷_, _++_};
 ghost use Prim.Native.Nat.{ℕ, suc, _+_, _*_, _≤_, _<_};
 ghost use lib.ListN.{length};
+ghost use Rattle.records.specs.Format.{mostNodes};
+ghost use Rattle.spec_image.specs.Sizes.{callerRoom, frameRoom, size, slotRoom};
 ghost use Rattle.records.specs.Fields.{functions, paramsOf, varsOf, countOf};
 ghost use Rattle.records.specs.Parts.{startOf};
 ghost use Rattle.spec_machine.specs.Values as values;
@@ -18,15 +22,15 @@ ghost use Rattle.spec_machine.specs.Machine.{emptyEnv, Frame, gather, Saved, sa
 ghost use Rattle.spec_machine.specs.Machine as machine;
 ghost use Rattle.spec_machine.specs.File.{funOf};
 ghost use Rattle.spec_image.specs.Image.{savedFrames};
-ghost use Rattle.spec_image.specs.Core.{core};
+ghost use Rattle.spec_image.specs.Core.{core, HoldingCore};
 ghost use Rattle.state_words.specs.Meaning.{valueIs};
 ghost use Rattle.spec_image.specs.Decode.{refOf};
-ghost use Rattle.run_rules.specs.StepsTo.{Describes, Bounds, Called, Cleared, StepsTo};
+ghost use Rattle.run_rules.specs.StepsTo.{Describes, Bounds, Called, Cleared, StepsTo, Holding};
 ghost use Rattle.records.specs.Starts.{Starts};
 
 // The word of the body of the function whose part has its first byte at `start`.
 pub fn body_of(file: &[u8], start: usize, count: usize) -> u32
-    requires { ⌜ (start + 12 * count ≤ length (now file)) × (1 ≤ count) × (count ≤ 4096) ⌝ }
+    requires { ⌜ (start + 12 * count ≤ length (now file)) × (1 ≤ count) × (count ≤ mostNodes) ⌝ }
     ensures { λ r. ⌜ ((g : ℕ) → start ≡ 12 * startOf (now (file .entry)) g → count ≡ countOf (now (file .entry)) g → refOf r ≡ funOf (now (file .entry)) g .body) ⌝ }
 {
     let root = count - 1;
@@ -37,15 +41,15 @@ pub fn body_of(file: &[u8], start: usize, count: usize) -> u32
 // Enters function g without arguments.
 pub fn enter_none(
     file: &[u8],
-    starts: &[usize; 128],
+    starts: &[usize; MOST_FUNCTIONS],
     m: &mut [u32],
     h: Registers,
     g: u32,
 ) -> Stepped
     requires { ⌜ Bounds h (now m) × Starts (now file) (now starts) × (g < functions (now file)) ⌝ }
-    ensures { λ r. ⌜ ((f : ℕ) (η : List values.Value) (K : List Frame) (A : List Saved) (R : List ℕ) → now (m .entry) ≡ core f η K A ++ R → Describes (now (file .entry)) h f K A → paramsOf (now (file .entry)) g ≡ 0 → StepsTo (now (file .entry)) r (now (m .entry)) (now (m .exit)) R (running (machine.exec (funOf (now (file .entry)) g .body)) emptyEnv g (entered (funOf (now (file .entry)) g) []) [] (saved f η K ∷ A))) ⌝ }
+    ensures { λ r. ⌜ Holding (now (file .entry)) (now (m .entry)) h (λ f η K A R. paramsOf (now (file .entry)) g ≡ 0 → StepsTo (now (file .entry)) r (now (m .entry)) (now (m .exit)) R (running (machine.exec (funOf (now (file .entry)) g .body)) emptyEnv g (entered (funOf (now (file .entry)) g) []) [] (saved f η K ∷ A))) ⌝ }
 {
-    if 31 <= h.callers {
+    if SAVED_LIMIT <= h.callers {
         return Stepped::Full;
     }
     let function = g as usize;
@@ -74,17 +78,17 @@ pub fn enter_none(
 // Enters function g with the y values of the top frame and one at hand.
 pub fn enter(
     file: &[u8],
-    starts: &[usize; 128],
+    starts: &[usize; MOST_FUNCTIONS],
     m: &mut [u32],
     h: Registers,
     g: u32,
     y: usize,
     v: Value,
 ) -> Stepped
-    requires { ⌜ Bounds h (now m) × (1 ≤ h .frames) × Starts (now file) (now starts) × (g < functions (now file)) × (y ≤ 7) ⌝ }
+    requires { ⌜ Bounds h (now m) × (1 ≤ h .frames) × Starts (now file) (now starts) × (g < functions (now file)) × (y ≤ slotRoom) ⌝ }
     ensures { λ r. ⌜ ((f : ℕ) (η : List values.Value) (k : program.Operation) (vs : List values.Value) (K : List Frame) (A : List Saved) (R : List ℕ) → now (m .entry) ≡ core f η (machine.gather k vs [] ∷ K) A ++ R → Describes (now (file .entry)) h f (machine.gather k vs [] ∷ K) A → y ≡ length vs → paramsOf (now (file .entry)) g ≡ suc y → suc y ≤ varsOf (now (file .entry)) g → StepsTo (now (file .entry)) r (now (m .entry)) (now (m .exit)) R (running (machine.exec (funOf (now (file .entry)) g .body)) emptyEnv g (entered (funOf (now (file .entry)) g) (vs ++ (valueIs v ∷ []))) [] (saved f η K ∷ A))) ⌝ }
 {
-    if 31 <= h.callers {
+    if SAVED_LIMIT <= h.callers {
         return Stepped::Full;
     }
     let function = g as usize;
@@ -115,7 +119,13 @@ pub fn enter(
 }
 
 // Leaves a function that a function of the file has called, with a value.
-pub fn leave(file: &[u8], starts: &[usize; 128], m: &mut [u32], h: Registers, v: Value) -> Stepped
+pub fn leave(
+    file: &[u8],
+    starts: &[usize; MOST_FUNCTIONS],
+    m: &mut [u32],
+    h: Registers,
+    v: Value,
+) -> Stepped
     requires { ⌜ Bounds h (now m) × (1 ≤ h .callers) × Starts (now file) (now starts) ⌝ }
     requires caller { ⌜ Called (now file) h (now m) ⌝ }
     ensures { λ r. ⌜ ((f : ℕ) (η : List values.Value) (J : List Frame) (g : ℕ) (θ : List values.Value) (L : List Frame) (A : List Saved) (R : List ℕ) → now (m .entry) ≡ core f η J (saved g θ L ∷ A) ++ R → Describes (now (file .entry)) h f J (saved g θ L ∷ A) → StepsTo (now (file .entry)) r (now (m .entry)) (now (m .exit)) R (running (machine.val (valueIs v)) emptyEnv g θ L A)) ⌝ }
@@ -149,8 +159,8 @@ pub fn leave_main(m: &mut [u32], h: Registers, word: u32) -> Stepped
 
 // Sets all words of the state to zero.
 pub fn clear(m: &mut [u32], n: usize)
-    requires { ⌜ (n ≡ 16384) × (n ≤ length (now m)) ⌝ }
-    ensures { λ _. ⌜ ((f : ℕ) (η : List values.Value) (K : List Frame) (A : List Saved) (R : List ℕ) → now (m .entry) ≡ core f η K A ++ R → length A < 32 → length (K ++ savedFrames A) ≤ 512 → Cleared (now (m .exit)) R) ⌝ }
+    requires { ⌜ (n ≡ size) × (n ≤ length (now m)) ⌝ }
+    ensures { λ _. ⌜ HoldingCore (now (m .entry)) (λ f η K A R. length A < callerRoom → length (K ++ savedFrames A) ≤ frameRoom → Cleared (now (m .exit)) R) ⌝ }
 {
     words::zero_at(m, 0, n)
 }

@@ -4,10 +4,13 @@ use crate::Stepped;
 use records::nodes::b_at;
 use records::nodes::kind_at;
 use state_words::Control;
+use state_words::layout::FRAME_LIMIT;
 ghost use mathlib.Core.Path.{_≡_};
 ghost use mathlib.Core.List.{List, [], _∷_, _++_};
 ghost use Prim.Native.Nat.{ℕ, _+_, _*_, _≤_, _<_};
 ghost use lib.ListN.{length, replicate};
+ghost use Rattle.records.specs.Format.{mostNodes};
+ghost use Rattle.spec_image.specs.Sizes.{frameSize, slotRoom};
 ghost use Rattle.records.specs.Fields.{sizeAt};
 ghost use Rattle.records.specs.Children.{walk};
 ghost use Rattle.spec_machine.specs.Values as values;
@@ -45,11 +48,11 @@ pub fn gather(
     k: u32,
     last: usize,
 ) -> Stepped
-    requires { ⌜ Bounds h (now m) × (1 ≤ k) × (k ≤ 8) × (12 * last + 12 ≤ length (now part)) × (last < 4096) ⌝ }
-    ensures { λ r. ⌜ ((s : List ℕ) (f : ℕ) (η : List values.Value) (g : program.Operation) (e : ℕ) (ns : List ℕ) (K : List Frame) (A : List Saved) (R : List ℕ) → now (m .entry) ≡ core f η K A ++ R → Describes s h f K A → ((z : ℕ) → z ≤ 7 → frameWords (machine.gather g [] (replicate z 0)) ≡ filled 20 (kind ∷ x ∷ 0 ∷ z ∷ [])) → backwards (walk (sizeAt (now (part .entry))) k last) [] ≡ e ∷ ns → StepsTo s r (now (m .entry)) (now (m .exit)) R (running (reachL e (lookAt (now (part .entry)) e)) emptyEnv f η (machine.gather g [] ns ∷ K) A)) ⌝ }
+    requires { ⌜ Bounds h (now m) × (1 ≤ k) × (k ≤ 8) × (12 * last + 12 ≤ length (now part)) × (last < mostNodes) ⌝ }
+    ensures { λ r. ⌜ ((s : List ℕ) (f : ℕ) (η : List values.Value) (g : program.Operation) (e : ℕ) (ns : List ℕ) (K : List Frame) (A : List Saved) (R : List ℕ) → now (m .entry) ≡ core f η K A ++ R → Describes s h f K A → ((z : ℕ) → z ≤ slotRoom → frameWords (machine.gather g [] (replicate z 0)) ≡ filled frameSize (kind ∷ x ∷ 0 ∷ z ∷ [])) → backwards (walk (sizeAt (now (part .entry))) k last) [] ≡ e ∷ ns → StepsTo s r (now (m .entry)) (now (m .exit)) R (running (reachL e (lookAt (now (part .entry)) e)) emptyEnv f η (machine.gather g [] ns ∷ K) A)) ⌝ }
 {
     let n = h.under + h.frames;
-    if 512 <= n {
+    if FRAME_LIMIT <= n {
         return Stepped::Full;
     }
     let first = state_stack::top::push_gather(m, part, n, kind, x, k, last);

@@ -20,6 +20,7 @@ use Rattle.run_rules.specs.declared.Registers.{Registers}
 use Rattle.run_rules.specs.declared.Stepped.{Stepped}
 use Rattle.run_rules.specs.StepsTo.{Describes, StepsTo}
 use Rattle.records.specs.Starts.{Starts}
+use Rattle.records.specs.Format.{mostNodes, mostVariables}
 
 -- a value that is an int, or a bool
 abbrev pub IsInt : code.Value → Type 0
@@ -35,9 +36,9 @@ IsTruth (Truth b) = Unit {0}
 -- node i of a part t of the file s stands in it after its children, and its fields name a variable or a function
 pub record Node (s t : List ℕ) (i : ℕ) : Type 0 where
   pub inside : 12 * i + 12 ≤ length t
-  pub few : i < 4096
+  pub few : i < mostNodes
   pub child : 0 < arityAt t i → 0 < i
-  pub variable : kindAt t i ≡ 2 → bAt t i < 64
+  pub variable : kindAt t i ≡ 2 → bAt t i < mostVariables
   pub arguments : kindAt t i ≡ 5 → aAt t i ≤ 8
   pub callee : kindAt t i ≡ 5 → bAt t i < functions s
 
@@ -48,16 +49,16 @@ inLoop false w = ifOf w
 
 -- the node of a reference stands in a part t after its children
 abbrev pub InPart : List ℕ → ℕ → Type 0
-InPart t i = (12 * i + 12 ≤ length t) × (i < 4096) × (0 < i)
+InPart t i = (12 * i + 12 ≤ length t) × (i < mostNodes) × (0 < i)
 
 -- the statement of a reference stands in a part t
 abbrev pub Executes : List ℕ → Ref → Type 0
-Executes t (node i) = InPart t i × (7 ≤ kindAt t i) × (kindAt t i ≤ 14) × (kindAt t i ≡ 9 → bAt t i < 64)
+Executes t (node i) = InPart t i × (7 ≤ kindAt t i) × (kindAt t i ≤ 14) × (kindAt t i ≡ 9 → bAt t i < mostVariables)
 Executes t Ref.nop = Unit {0}
 Executes t (ifOf w) = InPart t w × (kindAt t w ≡ 11)
 Executes t (seqOf w) = InPart t w × (kindAt t w ≡ 11)
 
--- the file is accepted, and the memory l and the head h hold a fit state with the control c
+-- the file is accepted, and the memory l and the registers h hold a fit state with the control c
 pub record AtFitState (s table : List ℕ) (c : Control) (h : Registers) (l : List ℕ) : Type 0 where
   pub passed : checkOf s ≡ accepted
   pub starts : Starts s table

@@ -2,6 +2,7 @@
 mod statements;
 
 use arith::Applied;
+use records::format::MOST_FUNCTIONS;
 use records::nodes::a_at;
 use records::nodes::b_at;
 use records::nodes::kind_at;
@@ -12,10 +13,15 @@ use run_rules::Stepped;
 use state_stack::top::Top;
 use state_words::Control;
 use state_words::Value;
+use state_words::layout::FRAME_CALL;
+use state_words::layout::FRAME_OPERATOR;
+use state_words::layout::IMAGE_WORDS;
+use state_words::layout::SLOTS;
 ghost use mathlib.Core.Path.{_≡_};
 ghost use mathlib.Core.List.{List, [], _∷_, _++_};
 ghost use Prim.Native.Nat.{ℕ, suc, _+_, _*_, _-_, _≤_, _<_};
 ghost use lib.ListN.{length, getD};
+ghost use Rattle.spec_image.specs.Sizes.{callerRoom, frameSize, frameRoom, framesAt, size, slotsFrom, slotRoom};
 ghost use Rattle.records.specs.Fields.{paramsOf, kindAt, aAt, bAt};
 ghost use Rattle.records.specs.Parts.{partOf};
 ghost use Rattle.spec_language.specs.Check.{accepted, checkOf};
@@ -27,13 +33,13 @@ ghost use Rattle.spec_machine.specs.Next as next;
 ghost use Rattle.spec_machine.specs.Fit.{Fit};
 ghost use Rattle.spec_machine.specs.File.{lookAt, programOf};
 ghost use Rattle.spec_image.specs.Image.{savedFrames};
-ghost use Rattle.spec_image.specs.Core.{core};
+ghost use Rattle.spec_image.specs.Core.{core, HoldingCore};
 ghost use Rattle.state_words.specs.Meaning.{valueIs, controlIs};
-ghost use Rattle.run_rules.specs.StepsTo.{Describes, Bounds, Called, Cleared, StepsTo};
+ghost use Rattle.run_rules.specs.StepsTo.{Describes, Bounds, Called, Cleared, StepsTo, Holding, HoldingTop};
 ghost use Rattle.records.specs.Starts.{Starts};
 ghost use Rattle.run_step.specs.StepsBy.{IsInt, IsTruth, Node, AtFitState, StepsBy};
 
-// What nobody can ask for.
+// The answer where no rule applies: it asks for a contradiction, so no caller can reach it.
 fn unreachable() -> Stepped
     requires { ⌜ ⊥ ⌝ }
     ensures { λ _. ⌜ ⊥ ⌝ }
@@ -44,27 +50,27 @@ fn unreachable() -> Stepped
 // The next operand of the top frame, which has y values and z nodes waiting.
 fn next_operand(part: &[u8], m: &mut [u32], h: Registers, y: u32, z: u32, v: Value) -> Stepped
     requires { ⌜ Bounds h (now m) × (1 ≤ h .frames) × (y < 8) × (1 ≤ z) ⌝ }
-    requires inside { ⌜ 12 * getD (now m) (4480 + (h .under + (h .frames - 1)) * 20 + (4 + y * 2)) 0 + 12 ≤ length (now part) ⌝ }
-    ensures { λ r. ⌜ ((s : List ℕ) (f : ℕ) (η : List values.Value) (g : program.Operation) (vs : List values.Value) (e : ℕ) (ns : List ℕ) (K : List Frame) (A : List Saved) (R : List ℕ) → now (m .entry) ≡ core f η (machine.gather g vs (e ∷ ns) ∷ K) A ++ R → Describes s h f (machine.gather g vs (e ∷ ns) ∷ K) A → length vs + suc (length ns) ≤ 7 → y ≡ length vs → z ≡ suc (length ns) → StepsTo s r (now (m .entry)) (now (m .exit)) R (running (reachL e (lookAt (now (part .entry)) e)) emptyEnv f η (machine.gather g (vs ++ (valueIs v ∷ [])) ns ∷ K) A)) ⌝ }
+    requires inside { ⌜ 12 * getD (now m) (framesAt + (h .under + (h .frames - 1)) * frameSize + (slotsFrom + y * 2)) 0 + 12 ≤ length (now part) ⌝ }
+    ensures { λ r. ⌜ ((s : List ℕ) (f : ℕ) (η : List values.Value) (g : program.Operation) (vs : List values.Value) (e : ℕ) (ns : List ℕ) (K : List Frame) (A : List Saved) (R : List ℕ) → now (m .entry) ≡ core f η (machine.gather g vs (e ∷ ns) ∷ K) A ++ R → Describes s h f (machine.gather g vs (e ∷ ns) ∷ K) A → length vs + suc (length ns) ≤ slotRoom → y ≡ length vs → z ≡ suc (length ns) → StepsTo s r (now (m .entry)) (now (m .exit)) R (running (reachL e (lookAt (now (part .entry)) e)) emptyEnv f η (machine.gather g (vs ++ (valueIs v ∷ [])) ns ∷ K) A)) ⌝ }
 {
     let frames = h.frames - 1;
-    let e = state_words::frames::frame_word(m, h.under + frames, 4 + y as usize * 2);
+    let e = state_words::frames::frame_word(m, h.under + frames, SLOTS + y as usize * 2);
     run_rules::supply(m, h, y, z - 1, v, run_rules::gathering::reach(part, e))
 }
 
 // Ends the run by an exception, with all words of the state zero.
 fn raise(m: &mut [u32], exception: Stepped) -> Stepped
-    requires { ⌜ 16384 ≤ length (now m) ⌝ }
-    ensures { λ r. ⌜ (r ≡ exception) × ((f : ℕ) (η : List values.Value) (K : List Frame) (A : List Saved) (R : List ℕ) → now (m .entry) ≡ core f η K A ++ R → length A < 32 → length (K ++ savedFrames A) ≤ 512 → Cleared (now (m .exit)) R) ⌝ }
+    requires { ⌜ size ≤ length (now m) ⌝ }
+    ensures { λ r. ⌜ (r ≡ exception) × (HoldingCore (now (m .entry)) (λ f η K A R. length A < callerRoom → length (K ++ savedFrames A) ≤ frameRoom → Cleared (now (m .exit)) R)) ⌝ }
 {
-    run_rules::calling::clear(m, 16384);
+    run_rules::calling::clear(m, IMAGE_WORDS);
     exception
 }
 
 // Applies operator o to the operand in the top frame and the one at hand.
 fn operate(file: &[u8], m: &mut [u32], h: Registers, o: u32, v: Value) -> Stepped
     requires { ⌜ Bounds h (now m) × (1 ≤ h .frames) × (o < 16) × (9 ≤ length (now file)) ⌝ }
-    requires ints { ⌜ IsInt v × (getD (now m) (4480 + (h .under + (h .frames - 1)) * 20 + (4 + 0 * 2)) 0 ≡ 1) ⌝ }
+    requires ints { ⌜ IsInt v × (getD (now m) (framesAt + (h .under + (h .frames - 1)) * frameSize + (slotsFrom + 0 * 2)) 0 ≡ 1) ⌝ }
     ensures { λ r. ⌜ ((f : ℕ) (η : List values.Value) (a b : ℕ) (K : List Frame) (A : List Saved) (R : List ℕ) → now (m .entry) ≡ core f η (machine.gather (program.op o) (values.int a ∷ []) [] ∷ K) A ++ R → Describes (now (file .entry)) h f (machine.gather (program.op o) (values.int a ∷ []) [] ∷ K) A → valueIs v ≡ values.int b → StepsBy (now (file .entry)) r (now (m .entry)) (now (m .exit)) R (next.settle emptyEnv f η K A (values.result (getD (now (file .entry)) 8 0) o a b))) ⌝ }
 {
     let Value::Int(b) = v else {
@@ -84,7 +90,7 @@ fn operate(file: &[u8], m: &mut [u32], h: Registers, o: u32, v: Value) -> Steppe
 // Takes the top frame off, and goes on by the bool at hand.
 fn choose(m: &mut [u32], h: Registers, v: Value, yes: Control, no: Control) -> Stepped
     requires { ⌜ Bounds h (now m) × (1 ≤ h .frames) × IsTruth v ⌝ }
-    ensures { λ r. ⌜ ((s : List ℕ) (p q : machine.Rule) (f : ℕ) (η : List values.Value) (fr : Frame) (K : List Frame) (A : List Saved) (R : List ℕ) → now (m .entry) ≡ core f η (fr ∷ K) A ++ R → Describes s h f (fr ∷ K) A → StepsBy s r (now (m .entry)) (now (m .exit)) R (next.onTruth (valueIs v) (next.goes p (running (controlIs yes) emptyEnv f η K A)) (next.goes q (running (controlIs no) emptyEnv f η K A)))) ⌝ }
+    ensures { λ r. ⌜ ((s : List ℕ) (p q : machine.Rule) → HoldingTop s (now (m .entry)) h (λ f η fr K A R. StepsBy s r (now (m .entry)) (now (m .exit)) R (next.onTruth (valueIs v) (next.goes p (running (controlIs yes) emptyEnv f η K A)) (next.goes q (running (controlIs no) emptyEnv f η K A))))) ⌝ }
 {
     let Value::Truth(truth) = v else {
         return unreachable();
@@ -99,7 +105,7 @@ fn choose(m: &mut [u32], h: Registers, v: Value, yes: Control, no: Control) -> S
 // Goes on after an assert that holds, and ends the run where it does not.
 fn affirm(m: &mut [u32], h: Registers, v: Value) -> Stepped
     requires { ⌜ Bounds h (now m) × (1 ≤ h .frames) × IsTruth v ⌝ }
-    ensures { λ r. ⌜ ((s : List ℕ) (p q : machine.Rule) (f : ℕ) (η : List values.Value) (fr : Frame) (K : List Frame) (A : List Saved) (R : List ℕ) → now (m .entry) ≡ core f η (fr ∷ K) A ++ R → Describes s h f (fr ∷ K) A → StepsBy s r (now (m .entry)) (now (m .exit)) R (next.onTruth (valueIs v) (next.goes p (running (machine.exec program.Ref.nop) emptyEnv f η K A)) (next.goes q (machine.exception machine.abort)))) ⌝ }
+    ensures { λ r. ⌜ ((s : List ℕ) (p q : machine.Rule) → HoldingTop s (now (m .entry)) h (λ f η fr K A R. StepsBy s r (now (m .entry)) (now (m .exit)) R (next.onTruth (valueIs v) (next.goes p (running (machine.exec program.Ref.nop) emptyEnv f η K A)) (next.goes q (machine.exception machine.abort))))) ⌝ }
 {
     let Value::Truth(truth) = v else {
         return unreachable();
@@ -112,11 +118,17 @@ fn affirm(m: &mut [u32], h: Registers, v: Value) -> Stepped
 }
 
 // Leaves the current function with a value.
-fn depart(file: &[u8], starts: &[usize; 128], m: &mut [u32], h: Registers, v: Value) -> Stepped
+fn depart(
+    file: &[u8],
+    starts: &[usize; MOST_FUNCTIONS],
+    m: &mut [u32],
+    h: Registers,
+    v: Value,
+) -> Stepped
     requires { ⌜ Bounds h (now m) × Starts (now file) (now starts) ⌝ }
     requires outermost { ⌜ (h .callers ≡ 0 → IsInt v) ⌝ }
     requires called { ⌜ (1 ≤ h .callers → Called (now file) h (now m)) ⌝ }
-    ensures { λ r. ⌜ ((f : ℕ) (η : List values.Value) (J : List Frame) (A : List Saved) (R : List ℕ) → now (m .entry) ≡ core f η J A ++ R → Describes (now (file .entry)) h f J A → StepsBy (now (file .entry)) r (now (m .entry)) (now (m .exit)) R (next.leaving emptyEnv (valueIs v) A)) ⌝ }
+    ensures { λ r. ⌜ Holding (now (file .entry)) (now (m .entry)) h (λ f η K A R. StepsBy (now (file .entry)) r (now (m .entry)) (now (m .exit)) R (next.leaving emptyEnv (valueIs v) A)) ⌝ }
 {
     if h.callers == 0 {
         let Value::Int(word) = v else {
@@ -130,34 +142,34 @@ fn depart(file: &[u8], starts: &[usize; 128], m: &mut [u32], h: Registers, v: Va
 // Evaluates the call at node i.
 fn call(
     file: &[u8],
-    starts: &[usize; 128],
+    starts: &[usize; MOST_FUNCTIONS],
     part: &[u8],
     m: &mut [u32],
     h: Registers,
     i: usize,
 ) -> Stepped
     requires { ⌜ Bounds h (now m) × Starts (now file) (now starts) × Node (now file) (now part) i × (kindAt (now part) i ≡ 5) ⌝ }
-    ensures { λ r. ⌜ ((f : ℕ) (η : List values.Value) (K : List Frame) (A : List Saved) (R : List ℕ) → now (m .entry) ≡ core f η K A ++ R → Describes (now (file .entry)) h f K A → now (part .entry) ≡ partOf (now (file .entry)) f → paramsOf (now (file .entry)) (bAt (now (part .entry)) i) ≡ aAt (now (part .entry)) i → StepsBy (now (file .entry)) r (now (m .entry)) (now (m .exit)) R (next.opens (programOf (now (file .entry))) (lookAt (now (part .entry)) i) emptyEnv f η K A)) ⌝ }
+    ensures { λ r. ⌜ Holding (now (file .entry)) (now (m .entry)) h (λ f η K A R. now (part .entry) ≡ partOf (now (file .entry)) f → paramsOf (now (file .entry)) (bAt (now (part .entry)) i) ≡ aAt (now (part .entry)) i → StepsBy (now (file .entry)) r (now (m .entry)) (now (m .exit)) R (next.opens (programOf (now (file .entry))) (lookAt (now (part .entry)) i) emptyEnv f η K A)) ⌝ }
 {
     let g = b_at(part, i);
     let k = wide(a_at(part, i));
     if k == 0 {
         return run_rules::calling::enter_none(file, starts, m, h, g);
     }
-    run_rules::gathering::gather(part, m, h, 2, g, k, i - 1)
+    run_rules::gathering::gather(part, m, h, FRAME_CALL, g, k, i - 1)
 }
 
 // Evaluates the expression at node i.
 fn open(
     file: &[u8],
-    starts: &[usize; 128],
+    starts: &[usize; MOST_FUNCTIONS],
     part: &[u8],
     m: &mut [u32],
     h: Registers,
     i: u32,
 ) -> Stepped
     requires { ⌜ Bounds h (now m) × Starts (now file) (now starts) × Node (now file) (now part) i × (2 ≤ kindAt (now part) i) × (kindAt (now part) i ≤ 5) ⌝ }
-    ensures { λ r. ⌜ ((f : ℕ) (η : List values.Value) (K : List Frame) (A : List Saved) (R : List ℕ) → now (m .entry) ≡ core f η K A ++ R → Describes (now (file .entry)) h f K A → checkOf (now (file .entry)) ≡ accepted → now (part .entry) ≡ partOf (now (file .entry)) f → Fit (programOf (now (file .entry))) (running (machine.eval i) emptyEnv f η K A) → StepsBy (now (file .entry)) r (now (m .entry)) (now (m .exit)) R (next.opens (programOf (now (file .entry))) (lookAt (now (part .entry)) i) emptyEnv f η K A)) ⌝ }
+    ensures { λ r. ⌜ Holding (now (file .entry)) (now (m .entry)) h (λ f η K A R. checkOf (now (file .entry)) ≡ accepted → now (part .entry) ≡ partOf (now (file .entry)) f → Fit (programOf (now (file .entry))) (running (machine.eval i) emptyEnv f η K A) → StepsBy (now (file .entry)) r (now (m .entry)) (now (m .exit)) R (next.opens (programOf (now (file .entry))) (lookAt (now (part .entry)) i) emptyEnv f η K A)) ⌝ }
 {
     let at = i as usize;
     let kind = kind_at(part, at);
@@ -168,7 +180,15 @@ fn open(
             let v = state_stack::variable(m, callers, x);
             Stepped::Went(state_words::at_hand(v), h)
         }
-        3 => run_rules::gathering::gather(part, m, h, 1, wide(a_at(part, at)), 2, at - 1),
+        3 => run_rules::gathering::gather(
+            part,
+            m,
+            h,
+            FRAME_OPERATOR,
+            wide(a_at(part, at)),
+            2,
+            at - 1,
+        ),
         4 => {
             let last = at - 1;
             let first = prior(part, last);
@@ -189,14 +209,14 @@ fn open(
 // Gives a value to the top frame.
 fn give(
     file: &[u8],
-    starts: &[usize; 128],
+    starts: &[usize; MOST_FUNCTIONS],
     part: &[u8],
     m: &mut [u32],
     h: Registers,
     v: Value,
 ) -> Stepped
-    requires { ⌜ AtFitState (now file) (now starts) (machine.val (valueIs v)) h (now m) × (now part ≡ partOf (now file) (h .function)) × (16384 ≤ length (now m)) ⌝ }
-    ensures { λ r. ⌜ ((f : ℕ) (η : List values.Value) (fr : Frame) (K : List Frame) (A : List Saved) (R : List ℕ) → now (m .entry) ≡ core f η (fr ∷ K) A ++ R → Describes (now (file .entry)) h f (fr ∷ K) A → Fit (programOf (now (file .entry))) (running (machine.val (valueIs v)) emptyEnv f η (fr ∷ K) A) → StepsBy (now (file .entry)) r (now (m .entry)) (now (m .exit)) R (next.give (programOf (now (file .entry))) (valueIs v) emptyEnv f η (fr ∷ K) A)) ⌝ }
+    requires { ⌜ AtFitState (now file) (now starts) (machine.val (valueIs v)) h (now m) × (now part ≡ partOf (now file) (h .function)) × (size ≤ length (now m)) ⌝ }
+    ensures { λ r. ⌜ HoldingTop (now (file .entry)) (now (m .entry)) h (λ f η fr K A R. Fit (programOf (now (file .entry))) (running (machine.val (valueIs v)) emptyEnv f η (fr ∷ K) A) → StepsBy (now (file .entry)) r (now (m .entry)) (now (m .exit)) R (next.give (programOf (now (file .entry))) (valueIs v) emptyEnv f η (fr ∷ K) A)) ⌝ }
 {
     let frames = h.frames - 1;
     let top = state_stack::top::top_frame(m, h.under + frames);
@@ -226,10 +246,16 @@ fn give(
     }
 }
 
-// One step of a running state: the control and the head are handed on, and the rest is in the memory.
-pub fn step(file: &[u8], starts: &[usize; 128], m: &mut [u32], c: Control, h: Registers) -> Stepped
-    requires { ⌜ AtFitState (now file) (now starts) (controlIs c) h (now m) × (16384 ≤ length (now m)) ⌝ }
-    ensures { λ r. ⌜ ((f : ℕ) (η : List values.Value) (K : List Frame) (A : List Saved) (R : List ℕ) → now (m .entry) ≡ core f η K A ++ R → Describes (now (file .entry)) h f K A → Fit (programOf (now (file .entry))) (running (controlIs c) emptyEnv f η K A) → StepsBy (now (file .entry)) r (now (m .entry)) (now (m .exit)) R (next.next (programOf (now (file .entry))) (running (controlIs c) emptyEnv f η K A))) ⌝ }
+// One step of a running state: the control and the registers are handed on, and the rest is in the memory.
+pub fn step(
+    file: &[u8],
+    starts: &[usize; MOST_FUNCTIONS],
+    m: &mut [u32],
+    c: Control,
+    h: Registers,
+) -> Stepped
+    requires { ⌜ AtFitState (now file) (now starts) (controlIs c) h (now m) × (size ≤ length (now m)) ⌝ }
+    ensures { λ r. ⌜ Holding (now (file .entry)) (now (m .entry)) h (λ f η K A R. Fit (programOf (now (file .entry))) (running (controlIs c) emptyEnv f η K A) → StepsBy (now (file .entry)) r (now (m .entry)) (now (m .exit)) R (next.next (programOf (now (file .entry))) (running (controlIs c) emptyEnv f η K A))) ⌝ }
 {
     let a = h.start;
     let e = a + 12 * h.count;

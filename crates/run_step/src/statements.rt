@@ -8,10 +8,12 @@ use run_rules::Registers;
 use run_rules::Stepped;
 use state_words::Control;
 use state_words::Value;
+use state_words::layout::FRAME_WAIT;
 ghost use mathlib.Core.Path.{_≡_};
 ghost use mathlib.Core.List.{List, _∷_, _++_};
 ghost use Prim.Native.Nat.{ℕ, _+_, _*_, _-_, _≤_, _<_};
 ghost use lib.ListN.{length};
+ghost use Rattle.records.specs.Format.{mostNodes, mostVariables};
 ghost use Rattle.records.specs.Fields.{kindAt, bAt};
 ghost use Rattle.records.specs.Parts.{partOf};
 ghost use Rattle.spec_language.specs.Check.{accepted, checkOf};
@@ -25,12 +27,12 @@ ghost use Rattle.spec_machine.specs.File.{refAt, formAt, seeAt, programOf};
 ghost use Rattle.spec_image.specs.Layout.{refWord};
 ghost use Rattle.spec_image.specs.Decode.{refOf};
 ghost use Rattle.spec_image.specs.Core.{core};
-ghost use Rattle.run_rules.specs.StepsTo.{Describes, Bounds, StepsTo};
+ghost use Rattle.run_rules.specs.StepsTo.{Describes, Bounds, StepsTo, Holding};
 ghost use Rattle.run_step.specs.StepsBy.{inLoop, Executes, StepsBy};
 
 // The word of the statement at node i; nop is one and the same.
 fn ref_word_at(part: &[u8], i: usize) -> u32
-    requires { ⌜ (12 * i + 12 ≤ length (now part)) × (i < 4096) ⌝ }
+    requires { ⌜ (12 * i + 12 ≤ length (now part)) × (i < mostNodes) ⌝ }
     ensures { λ r. ⌜ (r ≡ refWord (refAt (now (part .entry)) i)) × (refOf r ≡ refAt (now (part .entry)) i) ⌝ }
 {
     if kind_at(part, i) == 6 {
@@ -52,9 +54,9 @@ fn resume(m: &mut [u32], h: Registers) -> Stepped
 
 // Executes the statement at node i.
 fn execute_node(part: &[u8], m: &mut [u32], h: Registers, i: u32) -> Stepped
-    requires { ⌜ Bounds h (now m) × (12 * i + 12 ≤ length (now part)) × (i < 4096) × (0 < i) × (7 ≤ kindAt (now part) i) × (kindAt (now part) i ≤ 14) ⌝ }
-    requires variable { ⌜ (kindAt (now part) i ≡ 9 → bAt (now part) i < 64) ⌝ }
-    ensures { λ r. ⌜ ((s : List ℕ) (f : ℕ) (η : List values.Value) (K : List Frame) (A : List Saved) (R : List ℕ) → now (m .entry) ≡ core f η K A ++ R → Describes s h f K A → checkOf s ≡ accepted → now (part .entry) ≡ partOf s f → Fit (programOf s) (running (machine.exec (program.node i)) emptyEnv f η K A) → StepsBy s r (now (m .entry)) (now (m .exit)) R (next.runs (programOf s) (formAt (now (part .entry)) i) emptyEnv f η K A)) ⌝ }
+    requires { ⌜ Bounds h (now m) × (12 * i + 12 ≤ length (now part)) × (i < mostNodes) × (0 < i) × (7 ≤ kindAt (now part) i) × (kindAt (now part) i ≤ 14) ⌝ }
+    requires variable { ⌜ (kindAt (now part) i ≡ 9 → bAt (now part) i < mostVariables) ⌝ }
+    ensures { λ r. ⌜ ((s : List ℕ) → Holding s (now (m .entry)) h (λ f η K A R. checkOf s ≡ accepted → now (part .entry) ≡ partOf s f → Fit (programOf s) (running (machine.exec (program.node i)) emptyEnv f η K A) → StepsBy s r (now (m .entry)) (now (m .exit)) R (next.runs (programOf s) (formAt (now (part .entry)) i) emptyEnv f η K A))) ⌝ }
 {
     let at = i as usize;
     let last = at - 1;
@@ -63,7 +65,14 @@ fn execute_node(part: &[u8], m: &mut [u32], h: Registers, i: u32) -> Stepped
         7 => {
             let first = prior(part, last);
             let word = ref_word_at(part, last);
-            run_rules::lay(m, h, 4, word, 0, Control::Exec(ref_word_at(part, first)))
+            run_rules::lay(
+                m,
+                h,
+                FRAME_WAIT,
+                word,
+                0,
+                Control::Exec(ref_word_at(part, first)),
+            )
         }
         8 => run_rules::lay(
             m,
@@ -109,8 +118,8 @@ fn execute_node(part: &[u8], m: &mut [u32], h: Registers, i: u32) -> Stepped
 
 // Executes the if that the while at node w equals, or the seq in it.
 fn execute_loop(part: &[u8], m: &mut [u32], h: Registers, w: u32, inner: bool) -> Stepped
-    requires { ⌜ Bounds h (now m) × (12 * w + 12 ≤ length (now part)) × (w < 4096) × (0 < w) ⌝ }
-    ensures { λ r. ⌜ ((s : List ℕ) (f : ℕ) (η : List values.Value) (K : List Frame) (A : List Saved) (R : List ℕ) → now (m .entry) ≡ core f η K A ++ R → Describes s h f K A → now (part .entry) ≡ partOf s f → kindAt (now (part .entry)) w ≡ 11 → StepsBy s r (now (m .entry)) (now (m .exit)) R (next.runs (programOf s) (seeAt (now (part .entry)) (inLoop inner w)) emptyEnv f η K A)) ⌝ }
+    requires { ⌜ Bounds h (now m) × (12 * w + 12 ≤ length (now part)) × (w < mostNodes) × (0 < w) ⌝ }
+    ensures { λ r. ⌜ ((s : List ℕ) → Holding s (now (m .entry)) h (λ f η K A R. now (part .entry) ≡ partOf s f → kindAt (now (part .entry)) w ≡ 11 → StepsBy s r (now (m .entry)) (now (m .exit)) R (next.runs (programOf s) (seeAt (now (part .entry)) (inLoop inner w)) emptyEnv f η K A))) ⌝ }
 {
     let last = w as usize - 1;
     if inner {
@@ -138,7 +147,7 @@ fn execute_loop(part: &[u8], m: &mut [u32], h: Registers, w: u32, inner: bool) -
 pub fn execute(part: &[u8], m: &mut [u32], h: Registers, r: u32) -> Stepped
     requires { ⌜ Bounds h (now m) × Executes (now part) (refOf r) ⌝ }
     requires waits { ⌜ (refOf r ≡ program.Ref.nop → 1 ≤ h .frames) ⌝ }
-    ensures { λ a. ⌜ ((s : List ℕ) (f : ℕ) (η : List values.Value) (K : List Frame) (A : List Saved) (R : List ℕ) → now (m .entry) ≡ core f η K A ++ R → Describes s h f K A → checkOf s ≡ accepted → now (part .entry) ≡ partOf s f → Fit (programOf s) (running (machine.exec (refOf r)) emptyEnv f η K A) → StepsBy s a (now (m .entry)) (now (m .exit)) R (next.runs (programOf s) (seeAt (now (part .entry)) (refOf r)) emptyEnv f η K A)) ⌝ }
+    ensures { λ a. ⌜ ((s : List ℕ) → Holding s (now (m .entry)) h (λ f η K A R. checkOf s ≡ accepted → now (part .entry) ≡ partOf s f → Fit (programOf s) (running (machine.exec (refOf r)) emptyEnv f η K A) → StepsBy s a (now (m .entry)) (now (m .exit)) R (next.runs (programOf s) (seeAt (now (part .entry)) (refOf r)) emptyEnv f η K A))) ⌝ }
 {
     if r == 0 {
         return resume(m, h);

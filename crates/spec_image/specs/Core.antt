@@ -1,4 +1,5 @@
 -- The words of a running state while it runs: the head and the current activation's frame count are kept elsewhere, and are zero here.
+use mathlib.Core.Path.{_≡_}
 use mathlib.Core.List.{List, _∷_, _++_}
 use Prim.Native.Nat.{ℕ}
 use lib.ListN.{replicate}
@@ -14,3 +15,11 @@ unfoldable pub core : ℕ → List Value → List Frame → List Saved → List 
 core f η K A =
     replicate headSize 0
     ++ (region activationSize activationWords callerRoom (activation f 0 η ∷ savedActivations A) ++ (region frameSize frameWords frameRoom (K ++ savedFrames A) ++ replicate spareSize 0))
+
+-- of every running state whose words the memory l begins with
+abbrev pub HoldingCore : List ℕ → (ℕ → List Value → List Frame → List Saved → List ℕ → Type 0) → Type 0
+HoldingCore l say = (f : ℕ) (η : List Value) (K : List Frame) (A : List Saved) (R : List ℕ) → l ≡ core f η K A ++ R → say f η K A R
+
+-- the same of every one with a frame on top
+abbrev pub HoldingTopCore : List ℕ → (ℕ → List Value → Frame → List Frame → List Saved → List ℕ → Type 0) → Type 0
+HoldingTopCore l say = (f : ℕ) (η : List Value) (fr : Frame) (K : List Frame) (A : List Saved) (R : List ℕ) → l ≡ core f η (fr ∷ K) A ++ R → say f η fr K A R

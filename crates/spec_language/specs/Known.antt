@@ -7,6 +7,7 @@ use lib.Dec.{eqb}
 use Rattle.records.specs.Fields.{kindAt, aAt, bAt, sizeAt}
 use Rattle.records.specs.Children.{arityAt}
 use Rattle.spec_language.specs.Scopes.{usesVariable}
+use Rattle.records.specs.Format.{mostVariables}
 
 -- a kind whose b is a variable
 unfoldable pub namesVariable : ℕ → Bool
@@ -16,7 +17,7 @@ namesVariable kind = usesVariable kind || eqb kind 9
 pub record Known (t : List ℕ) (n : ℕ) : Type 0 where
   pub child : (i : ℕ) → i < n → 0 < arityAt t i → 0 < i
   pub sized : (i : ℕ) → i < n → sizeAt t i ≤ i + 1
-  pub variable : (i : ℕ) → i < n → namesVariable (kindAt t i) ≡ true → bAt t i < 64
+  pub variable : (i : ℕ) → i < n → namesVariable (kindAt t i) ≡ true → bAt t i < mostVariables
   pub arguments : (i : ℕ) → i < n → kindAt t i ≡ 5 → aAt t i ≤ 8
 
 -- the calls among n nodes of a part are of the first F functions

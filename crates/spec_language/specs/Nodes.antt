@@ -16,6 +16,7 @@ use Rattle.spec_language.specs.Statements.{statementAt}
 use Rattle.spec_language.specs.Flow.{lacks, returns}
 use Rattle.spec_language.specs.Scopes.{declCount, declOf, under, usesVariable}
 use Rattle.spec_language.specs.Types.{typeAt, wantAt, agree}
+use Rattle.records.specs.Format.{nodeMark}
 
 -- the fields a and b of kinds 0 to 15; v, p and F are the function's and the file's, and a call's a is its callee's p
 unfoldable pub fields : List ℕ → ℕ → ℕ → ℕ → List Bool
@@ -31,7 +32,7 @@ fieldsOk s f kind a b = getD (fields s f a b) kind false
 
 -- 7: is each node's mark "ND", its kind, a and b as above?
 unfoldable pub nodeOk : List ℕ → ℕ → List ℕ → ℕ → Bool
-nodeOk s f t i = eqb (markAt t i) 17486 && fieldsOk s f (kindAt t i) (aAt t i) (bAt t i)
+nodeOk s f t i = eqb (markAt t i) nodeMark && fieldsOk s f (kindAt t i) (aAt t i) (bAt t i)
 
 -- the sizes of some nodes together
 unfoldable pub total : (ℕ → ℕ) → List ℕ → ℕ

@@ -7,6 +7,7 @@ use lib.ListN.{length}
 use Rattle.records.specs.Bytes.{u16At, u32At}
 use Rattle.records.specs.Fields.{markAt, functions, nodes, resultOf, paramsOf, varsOf, maskOf, countOf}
 use Rattle.records.specs.Parts.{sumOf}
+use Rattle.records.specs.Format.{headerMark, functionMark, mostFunctions, mostNodes, mostParameters, mostVariables}
 
 -- lo to hi
 unfoldable pub within : ℕ → ℕ → ℕ → Bool
@@ -18,7 +19,7 @@ lengthOk s = eqb (length s % 12) 0 && leb 36 (length s)
 
 -- 2: "PR", F from 1 to 128, N from 1 to 4,096, four zero bytes
 unfoldable pub headerOk : List ℕ → Bool
-headerOk s = eqb (markAt s 0) 21072 && (within 1 128 (functions s) && (within 1 4096 (nodes s) && eqb (u32At s 8) 0))
+headerOk s = eqb (markAt s 0) headerMark && (within 1 mostFunctions (functions s) && (within 1 mostNodes (nodes s) && eqb (u32At s 8) 0))
 
 -- 3: is the length 12 × (1+F+N)?
 unfoldable pub recordsOk : List ℕ → Bool
@@ -27,7 +28,7 @@ recordsOk s = eqb (length s) (12 * (1 + functions s + nodes s))
 -- 4: "FN", result 0 to 2, p 0 to 8, v from p to 64, no mask bit from p on, two zero bytes, a count of 1 or more
 unfoldable pub functionOk : List ℕ → ℕ → Bool
 functionOk s f =
-    eqb (markAt s (1 + f)) 20038 && (leb (resultOf s f) 2 && (leb (paramsOf s f) 8 && (within (paramsOf s f) 64 (varsOf s f)
+    eqb (markAt s (1 + f)) functionMark && (leb (resultOf s f) 2 && (leb (paramsOf s f) mostParameters && (within (paramsOf s f) mostVariables (varsOf s f)
     && (ltb (maskOf s f) (2 ^ paramsOf s f) && (eqb (u16At s (12 * (1 + f) + 6)) 0 && leb 1 (countOf s f))))))
 
 -- 5: do the part counts sum to N?

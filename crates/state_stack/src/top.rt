@@ -1,9 +1,14 @@
 // The top frame of a running state: read as a view, and laid with the nodes of operands that wait.
 use records::nodes::prior;
+use state_words::layout::FRAME_WORDS;
+use state_words::layout::FRAMES;
+use state_words::layout::SLOTS;
 ghost use mathlib.Core.Path.{_≡_};
 ghost use mathlib.Core.List.{List, [], _∷_, _++_};
 ghost use Prim.Native.Nat.{ℕ, _+_, _*_, _≤_, _<_};
 ghost use lib.ListN.{length, replicate};
+ghost use Rattle.records.specs.Format.{mostNodes};
+ghost use Rattle.spec_image.specs.Sizes.{callerRoom, frameSize, frameRoom, size, slotRoom};
 ghost use Rattle.records.specs.Fields.{sizeAt};
 ghost use Rattle.records.specs.Children.{walk};
 ghost use Rattle.spec_machine.specs.Values.{Value};
@@ -12,7 +17,7 @@ ghost use Rattle.spec_machine.specs.Machine.{Frame, gather, Saved};
 ghost use Rattle.spec_machine.specs.File.{backwards};
 ghost use Rattle.spec_image.specs.Layout.{filled, frameWords};
 ghost use Rattle.spec_image.specs.Image.{savedFrames};
-ghost use Rattle.spec_image.specs.Core.{core};
+ghost use Rattle.spec_image.specs.Core.{core, HoldingTopCore};
 ghost use Rattle.state_stack.specs.Shows.{Shows};
 
 // A frame: what gathers, with how many values it has and how many nodes wait, or one of the frames without operands.
@@ -30,10 +35,10 @@ pub enum Top {
 
 // The top frame over n frames.
 pub fn top_frame(m: &[u32], n: usize) -> Top
-    requires { ⌜ (16384 ≤ length (now m)) × (n < 512) ⌝ }
-    ensures { λ r. ⌜ ((f : ℕ) (η : List Value) (fr : Frame) (K : List Frame) (A : List Saved) (R : List ℕ) → now (m .entry) ≡ core f η (fr ∷ K) A ++ R → length A < 32 → n ≡ length (K ++ savedFrames A) → Shows r fr) ⌝ }
+    requires { ⌜ (size ≤ length (now m)) × (n < frameRoom) ⌝ }
+    ensures { λ r. ⌜ HoldingTopCore (now (m .entry)) (λ f η fr K A R. length A < callerRoom → n ≡ length (K ++ savedFrames A) → Shows r fr) ⌝ }
 {
-    let at = 4480 + n * 20;
+    let at = FRAMES + n * FRAME_WORDS;
     let kind = m[at];
     let x = m[at + 1];
     let y = m[at + 2];
@@ -60,15 +65,15 @@ pub fn push_gather(
     k: u32,
     last: usize,
 ) -> usize
-    requires { ⌜ (16384 ≤ length (now m)) × (n < 512) × (1 ≤ k) × (k ≤ 8) × (12 * last + 12 ≤ length (now part)) × (last < 4096) ⌝ }
-    ensures { λ r. ⌜ (r ≤ last) × ((f : ℕ) (η : List Value) (h : Operation) (e : ℕ) (ns : List ℕ) (K : List Frame) (A : List Saved) (R : List ℕ) → now (m .entry) ≡ core f η K A ++ R → length A < 32 → n ≡ length (K ++ savedFrames A) → ((z : ℕ) → z ≤ 7 → frameWords (gather h [] (replicate z 0)) ≡ filled 20 (kind ∷ x ∷ 0 ∷ z ∷ [])) → backwards (walk (sizeAt (now (part .entry))) k last) [] ≡ e ∷ ns → (r ≡ e) × (now (m .exit) ≡ core f η (gather h [] ns ∷ K) A ++ R)) ⌝ }
+    requires { ⌜ (size ≤ length (now m)) × (n < frameRoom) × (1 ≤ k) × (k ≤ 8) × (12 * last + 12 ≤ length (now part)) × (last < mostNodes) ⌝ }
+    ensures { λ r. ⌜ (r ≤ last) × ((f : ℕ) (η : List Value) (h : Operation) (e : ℕ) (ns : List ℕ) (K : List Frame) (A : List Saved) (R : List ℕ) → now (m .entry) ≡ core f η K A ++ R → length A < callerRoom → n ≡ length (K ++ savedFrames A) → ((z : ℕ) → z ≤ slotRoom → frameWords (gather h [] (replicate z 0)) ≡ filled frameSize (kind ∷ x ∷ 0 ∷ z ∷ [])) → backwards (walk (sizeAt (now (part .entry))) k last) [] ≡ e ∷ ns → (r ≡ e) × (now (m .exit) ≡ core f η (gather h [] ns ∷ K) A ++ R)) ⌝ }
 {
     state_words::frames::put_frame(m, n, kind, x, 0, k - 1);
     let mut j = k as usize - 1;
     let mut c = last;
     while 0 < j {
         j -= 1;
-        m[4480 + n * 20 + (4 + j * 2)] = c as u32;
+        m[FRAMES + n * FRAME_WORDS + (SLOTS + j * 2)] = c as u32;
         c = prior(part, c);
     }
     c

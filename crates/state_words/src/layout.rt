@@ -32,8 +32,10 @@ pub const SLOT_ROOM: usize = 7;
 
 pub const VARIABLE_ROOM: usize = 64;
 
-// The most saved callers, main's empty one included, and the most frames of all activations.
+// The most saved callers, main's empty one included and without it, and the most frames of all activations.
 pub const CALLER_LIMIT: usize = 32;
+
+pub const SAVED_LIMIT: usize = CALLER_LIMIT - 1;
 
 pub const FRAME_LIMIT: usize = 512;
 
@@ -49,3 +51,33 @@ pub const TAG_VALUE: u32 = 4;
 pub const TAG_ARITH: u32 = 5;
 
 pub const TAG_ABORT: u32 = 6;
+
+// The forms of a control.
+pub const FORM_NOTHING: u32 = 1;
+
+pub const FORM_INT: u32 = 2;
+
+pub const FORM_BOOL: u32 = 3;
+
+pub const FORM_EVAL: u32 = 4;
+
+pub const FORM_EXEC: u32 = 5;
+
+// The kinds of a frame.
+pub const FRAME_OPERATOR: u32 = 1;
+
+pub const FRAME_CALL: u32 = 2;
+
+pub const FRAME_AND: u32 = 3;
+
+pub const FRAME_WAIT: u32 = 4;
+
+pub const FRAME_STORE: u32 = 5;
+
+pub const FRAME_BRANCH: u32 = 6;
+
+pub const FRAME_RETURN: u32 = 7;
+
+pub const FRAME_ASSERT: u32 = 8;
+
+pub const FRAME_DISCARD: u32 = 9;

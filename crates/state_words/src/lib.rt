@@ -1,4 +1,4 @@
-// The machine's words: values, references, controls, frames and activations in lent memory.
+// Values, references and controls in words of lent memory; frames and activations are modules of their own.
 pub mod activations;
 pub mod frames;
 pub mod layout;

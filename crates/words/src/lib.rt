@@ -1,4 +1,4 @@
-// Lists of words: cleared, copied, tested for zeros, compared.
+// Words of lent memory: cleared, copied, tested for zeros.
 ghost use mathlib.Core.Path.{_≡_};
 ghost use Prim.Native.Nat.{_+_, _≤_};
 ghost use lib.ListN.{take, drop, length, replicate};

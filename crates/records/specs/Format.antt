@@ -1,0 +1,26 @@
+-- The numbers of document 01's file: marks, and the most functions, nodes, parameters and variables.
+use Prim.Native.Nat.{ℕ}
+
+-- "PR", "FN" and "ND" as numbers of two bytes
+abbrev pub headerMark : ℕ
+headerMark = 21072
+
+abbrev pub functionMark : ℕ
+functionMark = 20038
+
+abbrev pub nodeMark : ℕ
+nodeMark = 17486
+
+-- the most functions and nodes of a file
+abbrev pub mostFunctions : ℕ
+mostFunctions = 128
+
+abbrev pub mostNodes : ℕ
+mostNodes = 4096
+
+-- the most parameters and variables of a function
+abbrev pub mostParameters : ℕ
+mostParameters = 8
+
+abbrev pub mostVariables : ℕ
+mostVariables = 64
