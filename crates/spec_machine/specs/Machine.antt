@@ -37,7 +37,7 @@ pub data Saved : Type 0 where
 pub data RunEnv : Type 0 where
   emptyEnv : RunEnv
 
--- running: control, ambient, then the current activation's function, variables and frames, then the saved callers but the empty one
+-- running: control, environment, then the current activation's function, variables and frames, then the saved callers but the empty one
 pub data State : Type 0 where
   value : ℕ → State
   exception : Exception → State
