@@ -148,7 +148,7 @@ pub fn strays(file: &[u8], f: usize, part: &[u8], n: usize, decls: &[usize; 64],
     !is_under(part, d, i)
 }
 
-// Whether node i of a part of n nodes uses or assigns a variable from p on outside its decl.
+// Whether node i of a part of n nodes uses or assigns a variable from p on outside its decl; by kind.
 fn is_outside(file: &[u8], f: usize, part: &[u8], n: usize, decls: &[usize; 64], i: usize) -> bool
     requires laid { ⌜ 12 * (1 + f) + 12 ≤ length (now file) ⌝ }
     requires inside { ⌜ (12 * n ≤ length (now part)) × (i < n) ⌝ }

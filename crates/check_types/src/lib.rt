@@ -60,7 +60,7 @@ pub fn operator_type(a: u8) -> u8
     if a < 10 { 1 } else { 2 }
 }
 
-// The type of node i of function f's part, of n nodes.
+// The type of node i of function f's part, of n nodes; by kind.
 pub fn type_of(file: &[u8], f: usize, part: &[u8], n: usize, decls: &[usize; 64], i: usize) -> u8
     requires laid { ⌜ Laid (now file) × (f < functions (now file)) ⌝ }
     requires inside { ⌜ (12 * n ≤ length (now part)) × (i < n) ⌝ }
@@ -91,7 +91,7 @@ fn condition_type(k: usize) -> u8
     if k == 0 { 2 } else { 254 }
 }
 
-// The type that node i wants of child k.
+// The type that node i wants of child k; by kind.
 fn want_of(
     file: &[u8],
     f: usize,

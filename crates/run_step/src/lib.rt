@@ -147,7 +147,7 @@ fn call(
     run_rules::gathering::gather(part, m, h, 2, g, k, i - 1)
 }
 
-// Evaluates the expression at node i.
+// Evaluates the expression at node i; by kind.
 fn open(
     file: &[u8],
     starts: &[usize; 128],
@@ -186,7 +186,7 @@ fn open(
     }
 }
 
-// Gives a value to the top frame.
+// Gives a value to the top frame; by frame.
 fn give(
     file: &[u8],
     starts: &[usize; 128],

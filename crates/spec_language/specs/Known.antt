@@ -8,7 +8,7 @@ use Rattle.records.specs.Fields.{kindAt, aAt, bAt, sizeAt}
 use Rattle.records.specs.Children.{arityAt}
 use Rattle.spec_language.specs.Scopes.{usesVariable}
 
--- a kind whose b is a variable
+-- a kind whose b is a variable; by kind
 unfoldable pub namesVariable : ℕ → Bool
 namesVariable kind = usesVariable kind || eqb kind 9
 

@@ -15,7 +15,7 @@ ghost use Rattle.spec_image.specs.Image.{savedFrames};
 ghost use Rattle.spec_image.specs.Core.{core};
 ghost use Rattle.state_stack.specs.Shows.{Shows};
 
-// A frame: what gathers, with how many values it has and how many nodes wait, or one of the frames without operands.
+// A frame: what gathers, with how many values it has and how many nodes wait, or one of the frames without operands; by frame.
 pub enum Top {
     Operator(u32, u32, u32),
     Call(u32, u32, u32),
@@ -28,7 +28,7 @@ pub enum Top {
     Discard,
 }
 
-// The top frame over n frames.
+// The top frame over n frames; by frame.
 pub fn top_frame(m: &[u32], n: usize) -> Top
     requires { ⌜ (16384 ≤ length (now m)) × (n < 512) ⌝ }
     ensures { λ r. ⌜ ((f : ℕ) (η : List Value) (fr : Frame) (K : List Frame) (A : List Saved) (R : List ℕ) → now (m .entry) ≡ core f η (fr ∷ K) A ++ R → length A < 32 → n ≡ length (K ++ savedFrames A) → Shows r fr) ⌝ }
