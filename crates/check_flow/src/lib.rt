@@ -132,7 +132,7 @@ fn in_loop(lacking: Found, body: Flow, set: VarSet) -> Flow
     }
 }
 
-// What the statement at node i finds, begun with the set.
+// What the statement at node i finds, begun with the set; by kind.
 pub fn flow_from(part: &[u8], n: usize, i: usize, set: VarSet) -> Flow
     requires inside { ⌜ (12 * n ≤ length (now part)) × (i < n) ⌝ }
     requires known { ⌜ Known (now part) n ⌝ }

@@ -64,7 +64,7 @@ fn call_at(
     nodes::guard(passes, plain(found, all, VarSet::empty()))
 }
 
-// A node of any kind.
+// A node of any kind; by kind.
 fn node_at(
     file: &[u8],
     f: usize,

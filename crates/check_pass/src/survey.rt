@@ -31,14 +31,14 @@ fn is_nothing(found: Found) -> bool
     }
 }
 
-// The number that field a of a node is below, by the kind of the node; 0 for calls and decls.
+// The number that field a of a node is below, by the kind of the node; 0 for calls and decls; by kind.
 fn a_limits() -> [u8; 16]
     ensures { λ r. ⌜ r ≡ aLimits ⌝ }
 {
     [1, 1, 1, 16, 1, 0, 1, 1, 1, 0, 1, 1, 1, 1, 1, 1]
 }
 
-// The same of field b, in a node of function f.
+// The number that field b of a node of function f is below, by the kind of the node; 0 for calls and decls; by kind.
 fn b_limits(file: &[u8], f: usize) -> [u64; 16]
     requires { ⌜ 12 * (1 + f) + 12 ≤ length (now file) ⌝ }
     ensures { λ r. ⌜ r ≡ bLimits (varsOf (now (file .entry)) f) ⌝ }

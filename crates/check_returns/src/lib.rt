@@ -10,7 +10,7 @@ ghost use Rattle.spec_language.specs.Statements.{statementAt};
 ghost use Rattle.spec_language.specs.Flow.{returns};
 ghost use Rattle.spec_language.specs.Known.{Known};
 
-// Whether the statement at node i returns.
+// Whether the statement at node i returns; by kind.
 pub fn returns_from(part: &[u8], n: usize, i: usize) -> bool
     requires inside { ⌜ (12 * n ≤ length (now part)) × (i < n) ⌝ }
     requires known { ⌜ Known (now part) n ⌝ }

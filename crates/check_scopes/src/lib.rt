@@ -157,7 +157,7 @@ pub fn strays(
     !is_under(part, d, i)
 }
 
-// Whether node i of a part of n nodes uses or assigns a variable from p on outside its decl.
+// Whether node i of a part of n nodes uses or assigns a variable from p on outside its decl; by kind.
 fn is_outside(
     file: &[u8],
     f: usize,

@@ -78,7 +78,7 @@ fn call_ok(file: &[u8], a: u8, b: u32) -> bool
     }
 }
 
-// Whether a node of function f may have these fields.
+// Whether a node of function f may have these fields; by kind.
 fn fields_ok(file: &[u8], f: usize, kind: u8, a: u8, b: u32) -> bool
     requires { ⌜ (12 * (1 + functions (now file)) ≤ length (now file)) × (f < functions (now file)) ⌝ }
     ensures { λ r. ⌜ r ≡ fieldsOk (now (file .entry)) f kind a b ⌝ }

@@ -14,7 +14,7 @@ ghost use Rattle.records.specs.Children.{children};
 ghost use Rattle.spec_language.specs.Sorts.{isExpression, wantsExpression, wrongSort};
 ghost use Rattle.spec_language.specs.Nodes.{wrongChild, misplaced};
 
-// Whether a kind is an expression.
+// Whether a kind is an expression; by kind.
 pub fn is_expression(kind: u8) -> bool
     ensures { λ r. ⌜ r ≡ isExpression kind ⌝ }
 {
@@ -25,7 +25,7 @@ pub fn is_expression(kind: u8) -> bool
     }
 }
 
-// Whether child k of a node of that kind is to be an expression.
+// Whether child k of a node of that kind is to be an expression; by kind.
 fn wants_expression(kind: u8, k: usize) -> bool
     ensures { λ r. ⌜ r ≡ wantsExpression kind k ⌝ }
 {

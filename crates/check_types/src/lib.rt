@@ -75,7 +75,7 @@ pub fn operator_type(a: u8) -> u8
     if a < 10 { TYPE_INT } else { TYPE_BOOL }
 }
 
-// The type of node i of function f's part, of n nodes.
+// The type of node i of function f's part, of n nodes; by kind.
 pub fn type_of(
     file: &[u8],
     f: usize,
@@ -113,7 +113,7 @@ fn condition_type(k: usize) -> u8
     if k == 0 { TYPE_BOOL } else { TYPE_ANY }
 }
 
-// The type that node i wants of child k.
+// The type that node i wants of child k; by kind.
 fn want_of(
     file: &[u8],
     f: usize,

@@ -253,7 +253,7 @@ fn put_body(templates: &[u8], part: &[u8], s: Subject, out: &mut [u8], at: usize
     w.at
 }
 
-// Puts the part of a function with the record at a place marked.
+// Puts the part of a function, each node by the template of its kind, with the record at a place marked; by kind.
 fn put_part(file: &[u8], function: usize, place: usize, out: &mut [u8], at: usize) -> usize
     ensures { λ r. ⌜ r ≤ length (now (out .exit)) ⌝ }
 {

@@ -218,7 +218,7 @@ fn put_size(file: &[u8], place: usize, function: usize, out: &mut [u8], at: usiz
     put(out, next, b", which does not fit the nodes before it")
 }
 
-// Puts which sort of node stands where the other one has to.
+// Puts which sort of node stands where the other one has to; by kind.
 fn put_sort(kind: u8, out: &mut [u8], at: usize) -> usize
     ensures { λ r. ⌜ r ≤ length (now (out .exit)) ⌝ }
 {

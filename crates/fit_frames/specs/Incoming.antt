@@ -19,7 +19,7 @@ pub data Incoming : Type 0 where
 abbrev pub giving : Ty → Set → Incoming
 giving t d = incoming true t d false
 
--- the frame takes what it is given
+-- the frame takes what it is given; by frame
 abbrev pub typed : Program → ℕ → Bool → Ty → Frame → Bool
 typed P f b t (gather h vs ns) = b && (areTy (wants P h) (map typeV vs ++ (t ∷ map (typeN P f) ns)) && (exprsIn P f ns && knownOperation P h))
 typed P f b t (and n) = b && (eqb t tBool && (exprIn P f n && eqb (typeN P f n) tBool))
@@ -30,7 +30,7 @@ typed P f b t Frame.leave = b && eqb t (P .fun f .result)
 typed P f b t check = b && eqb t tBool
 typed P f b t Frame.discard = b
 
--- every variable that it reads has a value
+-- every variable that the frame reads has a value; by frame
 abbrev pub flown : Program → ℕ → Set → Frame → Bool
 flown P f d (gather h vs ns) = readsNodes P f ns d
 flown P f d (and n) = reads P f n d
@@ -45,7 +45,7 @@ flown P f d Frame.discard = true
 abbrev pub frameFits : Program → ℕ → Incoming → Frame → Bool
 frameFits P f (incoming b t d e) fr = typed P f b t fr && flown P f d fr
 
--- what it hands on
+-- what the frame hands on; by frame
 abbrev pub handsOn : Program → ℕ → Incoming → Frame → Incoming
 handsOn P f (incoming b t d e) (gather h vs ns) = incoming true (gives P h) d e
 handsOn P f (incoming b t d e) (and n) = incoming true tBool d e

@@ -183,7 +183,7 @@ fn taken(d: Received) -> Received
     bare(set, d.come)
 }
 
-// The frame with i frames under it.
+// The frame with i frames under it; by frame.
 pub fn frame_step(
     file: &[u8],
     f: usize,

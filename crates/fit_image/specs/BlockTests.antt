@@ -30,7 +30,7 @@ controlOk form word = getD (false ∷ eqb word 0 ∷ true ∷ ltb word 2 ∷ tru
 unfoldable pub operandsOk : ℕ → ℕ → List ℕ → Bool
 operandsOk y z slots = leb (y + z) slotRoom && (valuesOk y slots && (nodesOk z (drop (2 * y) slots) && allZero (drop (2 * y + 2 * z) slots)))
 
--- a frame of 20 words, by its kind: 1 and 2 gather operands, 3 to 5 use one word, 6 uses two, 7 to 9 none
+-- a frame of 20 words, by its kind: 1 and 2 gather operands, 3 to 5 use one word, 6 uses two, 7 to 9 none; by frame
 unfoldable pub frameOk : List ℕ → Bool
 frameOk b =
     let kind = getD b 0 0 in

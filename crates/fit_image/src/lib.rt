@@ -83,7 +83,7 @@ fn operands_ok(s: &[u32], y: u32, z: u32) -> bool
     values_ok(s, n) & (nodes_ok(&s[mid..], k) & words::all_zero(&s[end..]))
 }
 
-// Whether 20 words are a frame's.
+// Whether 20 words are a frame's; by frame.
 fn frame_ok(b: &[u32]) -> bool
     requires { ⌜ length (now b) ≡ frameSize ⌝ }
     ensures { λ r. ⌜ r ≡ frameOk (now (b .entry)) ⌝ }

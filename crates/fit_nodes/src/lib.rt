@@ -65,7 +65,7 @@ pub fn is_expression(file: &[u8], f: usize, part: &[u8], n: usize, i: u32) -> bo
     }
 }
 
-// Whether the expression at node i is a constant.
+// Whether the expression at node i is a constant; by kind.
 pub fn is_constant(file: &[u8], f: usize, part: &[u8], n: usize, i: u32) -> bool
     requires { ⌜ Part (now file) f (now part) n × (exprIn (programOf (now file)) f i ≡ true) ⌝ }
     ensures { λ r. ⌜ r ≡ isConst (programOf (now (file .entry)) .look f i) ⌝ }
@@ -89,7 +89,7 @@ pub fn expression_type(
     check_types::type_of(file, f, part, n, decls, i as usize)
 }
 
-// Whether a reference names a statement of function f.
+// Whether a reference names a statement of function f; by kind.
 pub fn is_statement(file: &[u8], f: usize, part: &[u8], n: usize, r: Ref) -> bool
     requires { ⌜ Part (now file) f (now part) n ⌝ }
     ensures { λ b. ⌜ b ≡ stmtIn (programOf (now (file .entry))) f (refIs r) ⌝ }

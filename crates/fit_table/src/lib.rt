@@ -102,7 +102,7 @@ fn expression_needs(file: &[u8], f: usize, part: &[u8], n: usize, table: &[u64],
     set
 }
 
-// What the statement at node i does, from the rows of the nodes before it.
+// What the statement at node i does, from the rows of the nodes before it; by kind.
 fn statement_row(file: &[u8], f: usize, part: &[u8], n: usize, table: &[u64], i: usize) -> Row
     requires part { ⌜ Part (now file) f (now part) n × (i < n) × (isExpression (kindAt (now part) i) ≡ false) ⌝ }
     requires table { ⌜ RowsFilled (now part) (now table) i × (5 * n ≤ length (now table)) ⌝ }

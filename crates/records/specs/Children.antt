@@ -4,7 +4,7 @@ use Prim.Native.Nat.{ℕ, zero, suc, _-_}
 use lib.ListN.{getD}
 use Rattle.records.specs.Fields.{kindAt, aAt, sizeAt}
 
--- how many children a node of each kind has; a call has as many as a says
+-- how many children a node of each kind has; a call has as many as a says; by kind
 unfoldable pub arities : ℕ → List ℕ
 arities a = 0 ∷ 0 ∷ 0 ∷ 2 ∷ 2 ∷ a ∷ 0 ∷ 2 ∷ 1 ∷ 1 ∷ 3 ∷ 2 ∷ 1 ∷ 1 ∷ 1 ∷ 0 ∷ []
 

@@ -45,7 +45,7 @@ pub fn prior(part: &[u8], c: usize) -> usize
     crate::minus(c, size_at(part, c))
 }
 
-// How many children a node of that kind has; a is a call's count of arguments.
+// How many children a node of that kind has; a is a call's count of arguments; by kind.
 fn arity(kind: u8, a: u8) -> usize
     ensures { λ r. ⌜ (r ≡ arityOf kind a) × (r < 256) ⌝ }
 {

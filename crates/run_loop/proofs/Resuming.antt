@@ -14,6 +14,7 @@ use Rattle.spec_machine.specs.Machine.{Frame, Control, Saved, emptyEnv, running
 use Rattle.spec_machine.specs.Run.{runOf}
 use Rattle.spec_machine.specs.Fit.{Fit}
 use Rattle.spec_machine.specs.File.{programOf}
+use Rattle.spec_image.specs.Sizes.{callerRoom}
 use Rattle.spec_image.specs.Layout.{filled, activation, activationWords}
 use Rattle.spec_image.specs.Image.{savedActivations, savedFrames, headWords, activationsOf, framesOf, image}
 use Rattle.spec_image.specs.Decode.{controlOf, framesHeld, heldIn, activationsIn}
@@ -38,7 +39,7 @@ module _ (s : List ℕ) (passed : checkOf s ≡ accepted) (l : List ℕ) (c : Co
   pub resumed-count : getD l 2 0 ≡ suc (length A)
   resumed-count = rw held (running-word c emptyEnv f η K A R 2 (omega arith))
 
-  pub resumed-few : length A < 32
+  pub resumed-few : length A < callerRoom
   resumed-few = omega (arith, fit .within .0)
 
   pub resumed-known : f < functions s

@@ -61,13 +61,13 @@ left-tells s h f J g θ L A r st n a k u t hr hs hn ha hk hu =
 
 -- a step within the limits, by its control and its variables
 pub on-is : (s : List ℕ) (c : code.Control) (h : Registers) (l m R : List ℕ) (k : Control) (f : ℕ) (η θ : List Value) (K : List Frame) (A : List Saved)
-    → controlIs c ≡ k → θ ≡ η → m ≡ core f θ K A ++ R → Describes s h f K A → h .callers < 32 → h .under + h .frames ≤ 512
+    → controlIs c ≡ k → θ ≡ η → m ≡ core f θ K A ++ R → Describes s h f K A → h .callers < callerLimit → h .under + h .frames ≤ frameLimit
     → StepsTo s (Went c h) l m R (running k emptyEnv f η K A)
 on-is s c h l m R k f η θ K A q v e t a n = rw (← q, ← v) (on s c h l m R f θ K A e t a n)
 
 -- no function is entered past the limit
 pub entered-full : (s : List ℕ) (k : Control) (h : Registers) (l R : List ℕ) (f g : ℕ) (η θ : List Value) (J K : List Frame) (A : List Saved)
-    → Describes s h f J A → 31 ≤ h .callers → StepsTo s Full l l R (running k emptyEnv g θ [] (saved f η K ∷ A))
+    → Describes s h f J A → callerLimit - 1 ≤ h .callers → StepsTo s Full l l R (running k emptyEnv g θ [] (saved f η K ∷ A))
 unfolding StepsTo
 entered-full s k h l R f g η θ J K A t a = (callers-over k emptyEnv g θ [] (saved f η K ∷ A) (omega (arith, t .callers)), refl)
 

@@ -24,21 +24,21 @@ use Rattle.run_rules.specs.StepsTo.{Describes, StepsTo}
 -- ---- limits
 
 module _ (c : Control) (α : RunEnv) (f : ℕ) (η : List Value) (K : List Frame) (A : List Saved) where
-  pub within-yes : length A < 32 → length K + length (savedFrames A) ≤ 512 → withinLimits (running c α f η K A) ≡ true
+  pub within-yes : length A < fit.callerLimit → length K + length (savedFrames A) ≤ fit.frameLimit → withinLimits (running c α f η K A) ≡ true
   within-yes a k =
-      let n : length K + fit.savedFrameCount A ≤ 512 = rw (← length-frames A) k in
-      let b : 1 + length A ≤ 32 = omega arith in
-      rw (le-leb (1 + length A) 32 b, le-leb (length K + fit.savedFrameCount A) 512 n)
+      let n : length K + fit.savedFrameCount A ≤ fit.frameLimit = rw (← length-frames A) k in
+      let b : 1 + length A ≤ fit.callerLimit = omega arith in
+      rw (le-leb (1 + length A) fit.callerLimit b, le-leb (length K + fit.savedFrameCount A) fit.frameLimit n)
 
-  pub frames-over : 512 < length K + length (savedFrames A) → withinLimits (running c α f η K A) ≡ false
+  pub frames-over : fit.frameLimit < length K + length (savedFrames A) → withinLimits (running c α f η K A) ≡ false
   frames-over k =
-      let n : 512 < length K + fit.savedFrameCount A = rw (← length-frames A) k in
-      rw (lt-leb (length K + fit.savedFrameCount A) 512 n) (and-false (leb (1 + length A) 32))
+      let n : fit.frameLimit < length K + fit.savedFrameCount A = rw (← length-frames A) k in
+      rw (lt-leb (length K + fit.savedFrameCount A) fit.frameLimit n) (and-false (leb (1 + length A) fit.callerLimit))
 
-  pub callers-over : 32 ≤ length A → withinLimits (running c α f η K A) ≡ false
+  pub callers-over : fit.callerLimit ≤ length A → withinLimits (running c α f η K A) ≡ false
   callers-over a =
-      let b : 32 < 1 + length A = omega arith in
-      rw (lt-leb (1 + length A) 32 b)
+      let b : fit.callerLimit < 1 + length A = omega arith in
+      rw (lt-leb (1 + length A) fit.callerLimit b)
 
 -- ---- the head
 
@@ -54,7 +54,7 @@ counted-under {K} {A} t n e = omega (arith, t .under, t .frames, e, length-appen
 
 -- a step within the limits
 pub on : (s : List ℕ) (c : code.Control) (h : Registers) (l m R : List ℕ) (f : ℕ) (η : List Value) (K : List Frame) (A : List Saved)
-    → m ≡ core f η K A ++ R → Describes s h f K A → h .callers < 32 → h .under + h .frames ≤ 512
+    → m ≡ core f η K A ++ R → Describes s h f K A → h .callers < fit.callerLimit → h .under + h .frames ≤ fit.frameLimit
     → StepsTo s (Went c h) l m R (running (controlIs c) emptyEnv f η K A)
 unfolding StepsTo
 on s c h l m R f η K A e t a k =
@@ -76,7 +76,7 @@ moved t k L e = record { function = t .function; start = t .start; count = t .co
 
 -- a frame is laid, or there is no room for it
 pub full : (s : List ℕ) (c : Control) (h : Registers) (l R : List ℕ) (f : ℕ) (η : List Value) (fr : Frame) (K : List Frame) (A : List Saved)
-    → Describes s h f K A → 512 ≤ h .under + h .frames → StepsTo s Full l l R (running c emptyEnv f η (fr ∷ K) A)
+    → Describes s h f K A → fit.frameLimit ≤ h .under + h .frames → StepsTo s Full l l R (running c emptyEnv f η (fr ∷ K) A)
 unfolding StepsTo
 full s c h l R f η fr K A t k = (frames-over c emptyEnv f η (fr ∷ K) A (omega (arith, t .under, t .frames, k)), refl)
 

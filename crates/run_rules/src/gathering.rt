@@ -23,7 +23,7 @@ ghost use Rattle.spec_image.specs.Core.{core};
 ghost use Rattle.state_words.specs.Meaning.{controlIs};
 ghost use Rattle.run_rules.specs.StepsTo.{Describes, Bounds, StepsTo};
 
-// What is reached at node i: a constant's value, or the node to evaluate.
+// What is reached at node i: a constant's value, or the node to evaluate; by kind.
 pub fn reach(part: &[u8], i: u32) -> Control
     requires { ⌜ 12 * i + 12 ≤ length (now part) ⌝ }
     ensures { λ r. ⌜ controlIs r ≡ reachL i (lookAt (now (part .entry)) i) ⌝ }

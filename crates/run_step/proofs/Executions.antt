@@ -12,6 +12,7 @@ use Rattle.spec_machine.specs.Machine.{Frame, gather, and, wait, branch, check,
 use Rattle.spec_machine.specs.Next.{runs, passes}
 use Rattle.spec_machine.specs.Fit.{Fit}
 use Rattle.spec_machine.specs.File.{formAt, seeAt, stmtAt, programOf}
+use Rattle.spec_image.specs.Sizes.{callerRoom}
 use Rattle.spec_image.specs.Core.{core}
 use Rattle.spec_image.specs.Decode.{refOf}
 use Rattle.spec_image.specs.Layout.{refWord}
@@ -26,7 +27,7 @@ use Rattle.run_step.specs.StepsBy.{Executes, StepsBy}
 
 -- the word of a statement that waits in the top frame
 pub waits-word : (l : List ℕ) (n f : ℕ) (η : List Value) (r : Ref) (K : List Frame) (A : List Saved) (R : List ℕ) (w : ℕ)
-    → l ≡ core f η (wait r ∷ K) A ++ R → length A < 32 → n ≡ length (K ++ savedFrames A) → w ≡ getD l (frameAt n + 1) 0 → refOf w ≡ r
+    → l ≡ core f η (wait r ∷ K) A ++ R → length A < callerRoom → n ≡ length (K ++ savedFrames A) → w ≡ getD l (frameAt n + 1) 0 → refOf w ≡ r
 unfolding frameAt
 waits-word l n f η r K A R w e few count d =
     let q : w ≡ refWord r = d ∙ rw e (top-first f η K A R n (4480 + n * 20) few count refl (wait r)) in

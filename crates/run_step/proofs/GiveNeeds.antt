@@ -14,6 +14,7 @@ use Rattle.spec_machine.specs.Program.{Operation, op, fn}
 use Rattle.spec_machine.specs.Machine.{Frame, gather, and, val, Saved, saved, emptyEnv, running}
 use Rattle.spec_machine.specs.Fit as fit
 use Rattle.spec_machine.specs.File.{programOf}
+use Rattle.spec_image.specs.Sizes.{callerRoom, frameSize, framesAt, size}
 use Rattle.spec_image.specs.Image.{savedFrames}
 use Rattle.spec_image.specs.Layout.{valueWords}
 use Rattle.spec_image.specs.Core.{core}
@@ -65,7 +66,7 @@ over s table v h l st = go (st .frames) (st .held) (st .tells) (st .fit)
 
 -- the limits of a fit state
 pub limited : {s : List ℕ} {c : _} {h : code.Registers} {f : ℕ} {η : List values.Value} {K : List Frame} {A : List Saved} → Describes s h f K A
-    → fit.Fit (programOf s) (running c emptyEnv f η K A) → (h .callers < 32) × (h .under + h .frames ≤ 512)
+    → fit.Fit (programOf s) (running c emptyEnv f η K A) → (h .callers < fit.callerLimit) × (h .under + h .frames ≤ fit.frameLimit)
 limited {K} {A} t f = (omega (arith, t .callers, f .within .0), omega (arith, t .under, t .frames, f .within .1, length-frames A))
 
 pub shaped : {fr : Frame} {k : Operation} {vs ws : List values.Value} {ns : List ℕ} → fr ≡ gather k vs ns → vs ≡ ws → ns ≡ [] → fr ≡ gather k ws []
@@ -79,17 +80,17 @@ module _ (s table : List ℕ) (v : Value) (h : code.Registers) (l : List ℕ) (x
   pub framed : 1 ≤ h .frames
   framed = omega (arith, x .tells .frames)
 
-  pub bounded : 16384 ≤ length l → Bounds h l
+  pub bounded : size ≤ length l → Bounds h l
   bounded n = let q = limited (x .tells) (x .fit) in (n, q .0, q .1)
 
-  pub few : length (x .callers) < 32
+  pub few : length (x .callers) < callerRoom
   few = omega (arith, limited (x .tells) (x .fit) .0, x .tells .callers)
 
   pub under : h .under + (h .frames - 1) ≡ length (x .frames ++ savedFrames (x .callers))
   under = counted-under (x .tells) (h .frames - 1) (omega (arith, framed))
 
   abbrev pub place : ℕ
-  place = 4480 + (h .under + (h .frames - 1)) * 20
+  place = framesAt + (h .under + (h .frames - 1)) * frameSize
 
   module _ (y z : ℕ) where
     pub operate-ready : (o : ℕ) → Gathers (x .top) (op o) y z → z ≡ 0 → (o < 16) × IsInt v × (getD l (place + (4 + 0 * 2)) 0 ≡ 1)

@@ -10,6 +10,7 @@ use Rattle.spec_machine.specs.Values.{Value, int, truth, result}
 use Rattle.spec_machine.specs.Program.{op}
 use Rattle.spec_machine.specs.Machine.{arith as raises, Frame, gather, val, Saved, emptyEnv, exception, running}
 use Rattle.spec_machine.specs.Next.{settle}
+use Rattle.spec_image.specs.Sizes.{callerRoom}
 use Rattle.spec_image.specs.Image.{savedFrames}
 use Rattle.spec_image.specs.Decode.{valueOf}
 use Rattle.spec_image.specs.Core.{core}
@@ -29,7 +30,7 @@ hand v x b e i = int-inj (sym (ap valueIs e) ∙ i)
 
 -- the int in the top frame
 pub stored : (l : List ℕ) (n f : ℕ) (η : List Value) (o a : ℕ) (K : List Frame) (A : List Saved) (R : List ℕ) (v : code.Value) (x : ℕ)
-    → l ≡ core f η (gather (op o) (int a ∷ []) [] ∷ K) A ++ R → length A < 32 → n ≡ length (K ++ savedFrames A)
+    → l ≡ core f η (gather (op o) (int a ∷ []) [] ∷ K) A ++ R → length A < callerRoom → n ≡ length (K ++ savedFrames A)
     → valueIs v ≡ valueOf (getD l (4480 + n * 20 + (4 + 0 * 2)) 0) (getD l (4480 + n * 20 + (4 + 0 * 2) + 1) 0) → v ≡ code-value.Int x → x ≡ a
 stored l n f η o a K A R v x e few count i q =
     hand v x a q (i ∙ rw e (value-in f η K A R n (4480 + n * 20) few count refl (op o) (int a ∷ []) [] (omega arith) 0 _ (omega arith) refl))

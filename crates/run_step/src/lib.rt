@@ -159,7 +159,7 @@ fn call(
     run_rules::gathering::gather(part, m, h, FRAME_CALL, g, k, i - 1)
 }
 
-// Evaluates the expression at node i.
+// Evaluates the expression at node i; by kind.
 fn open(
     file: &[u8],
     starts: &[usize; MOST_FUNCTIONS],
@@ -206,7 +206,7 @@ fn open(
     }
 }
 
-// Gives a value to the top frame.
+// Gives a value to the top frame; by frame.
 fn give(
     file: &[u8],
     starts: &[usize; MOST_FUNCTIONS],

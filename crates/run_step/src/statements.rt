@@ -52,7 +52,7 @@ fn resume(m: &mut [u32], h: Registers) -> Stepped
     run_rules::take_off(m, h, Control::Exec(word))
 }
 
-// Executes the statement at node i.
+// Executes the statement at node i; by kind.
 fn execute_node(part: &[u8], m: &mut [u32], h: Registers, i: u32) -> Stepped
     requires { ⌜ Bounds h (now m) × (12 * i + 12 ≤ length (now part)) × (i < mostNodes) × (0 < i) × (7 ≤ kindAt (now part) i) × (kindAt (now part) i ≤ 14) ⌝ }
     requires variable { ⌜ (kindAt (now part) i ≡ 9 → bAt (now part) i < mostVariables) ⌝ }

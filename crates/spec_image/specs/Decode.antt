@@ -34,7 +34,7 @@ refOf (suc m) = pick (eqb (m % 3) 0) (node (m / 3)) (pick (eqb (m % 3) 1) (ifOf 
 unfoldable pub operands : Operation → ℕ → ℕ → List ℕ → Frame
 operands h n m slots = gather h (valuesOf n slots) (nodesOf m (drop (2 * n) slots))
 
--- the frames of kinds 1 to 9, from their three words and their slots
+-- the frames of kinds 1 to 9, from their three words and their slots; by frame
 unfoldable pub frames : ℕ → ℕ → ℕ → List ℕ → List Frame
 frames x y z slots =
     Frame.discard ∷ operands (op x) y z slots ∷ operands (fn x) y z slots ∷ and x ∷ wait (refOf x) ∷ Frame.store x ∷ branch (refOf x) (refOf y) ∷ Frame.leave ∷ check ∷ []

@@ -46,6 +46,7 @@ unfoldable pub gathering : Operation → List Value → List ℕ → List ℕ
 gathering (op o) vs ns = block 1 o (length vs) (length ns) (valuesWords vs ++ nodesWords ns)
 gathering (fn g) vs ns = block 2 g (length vs) (length ns) (valuesWords vs ++ nodesWords ns)
 
+-- the words of a frame; by frame
 unfoldable pub frameWords : Frame → List ℕ
 frameWords (gather h vs ns) = gathering h vs ns
 frameWords (and n) = block 3 n 0 0 []

@@ -7,6 +7,7 @@ use Rattle.spec_image.specs.Sizes.{slotRoom, variableRoom}
 use Rattle.spec_image.specs.Layout.{Activation, activation}
 use Rattle.spec_image.specs.Image.{activationsOf, framesOf}
 
+-- at most 7 operands; by frame
 abbrev pub NarrowFrame : Frame → Type 0
 NarrowFrame (gather h vs ns) = length vs + length ns ≤ slotRoom
 NarrowFrame (and n) = Unit {0}

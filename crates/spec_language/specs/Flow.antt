@@ -8,7 +8,7 @@ use Rattle.records.specs.declared.Found.the-variants.{At, Nothing}
 use Rattle.records.specs.Search.{orElse}
 use Rattle.spec_language.specs.Statements.{Read, read, Statement, Nop, Seq, Assign, Decl, If, While, Return, Assert, Expr}
 
--- the variables declared in a statement
+-- the variables declared in a statement; by kind
 unfoldable pub declares : Statement → Set
 declares Nop = none
 declares (Seq s t) = either (declares s) (declares t)
@@ -20,7 +20,7 @@ declares (Return e) = none
 declares (Assert e) = none
 declares (Expr e) = none
 
--- the variables that have a value after a statement, of those in d before it
+-- the variables that have a value after a statement, of those in d before it; by kind
 unfoldable pub leaves : Statement → Set → Set
 leaves Nop d = d
 leaves (Seq s t) d = leaves t (leaves s d)
@@ -37,7 +37,7 @@ unfoldable pub missing : List Read → Set → Found
 missing [] d = Nothing
 missing (read n x ∷ rs) d = pick (d x) (missing rs d) (At n 0)
 
--- the first node of a statement that reads a variable without a value
+-- the first node of a statement that reads a variable without a value; by kind
 unfoldable pub lacks : Statement → Set → Found
 lacks Nop d = Nothing
 lacks (Seq s t) d = orElse (lacks s d) (lacks t (leaves s d))
@@ -49,7 +49,7 @@ lacks (Return e) d = missing e d
 lacks (Assert e) d = missing e d
 lacks (Expr e) d = missing e d
 
--- return does; seq if either does; if when both branches do; decl as its statement; nothing else
+-- return does; seq if either does; if when both branches do; decl as its statement; nothing else; by kind
 unfoldable pub returns : Statement → Bool
 returns Nop = false
 returns (Seq s t) = returns s || returns t

@@ -9,7 +9,7 @@ use Rattle.records.specs.Children.{arityAt}
 use Rattle.spec_language.specs.Scopes.{usesVariable}
 use Rattle.records.specs.Format.{mostVariables}
 
--- a kind whose b is a variable
+-- a kind whose b is a variable; by kind
 unfoldable pub namesVariable : ℕ → Bool
 namesVariable kind = usesVariable kind || eqb kind 9
 

@@ -24,6 +24,6 @@ declOf t (suc i) x = pick (declaresAt t i x) i (declOf t i x)
 unfoldable pub under : List ℕ → ℕ → ℕ → Bool
 under t d j = ltb j d && ltb d (j + sizeAt t d)
 
--- a kind that uses or assigns a variable
+-- a kind that uses or assigns a variable; by kind
 unfoldable pub usesVariable : ℕ → Bool
 usesVariable kind = eqb kind 2 || eqb kind 8

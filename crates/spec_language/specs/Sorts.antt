@@ -8,11 +8,11 @@ unfoldable pub differ : Bool → Bool → Bool
 differ true b = not b
 differ false b = b
 
--- kinds 0 to 5 and 15 are expressions
+-- kinds 0 to 5 and 15 are expressions; by kind
 unfoldable pub isExpression : ℕ → Bool
 isExpression kind = ltb kind 6 || eqb kind 15
 
--- child k, counted from the left, of a node of that kind is to be an expression: not under seq and decl, and under if and while only the condition
+-- child k, counted from the left, of a node of that kind is to be an expression: not under seq and decl, and under if and while only the condition; by kind
 unfoldable pub wantsExpression : ℕ → ℕ → Bool
 wantsExpression kind k = not (eqb kind 7 || eqb kind 9) && (not (eqb kind 10 || eqb kind 11) || eqb k 0)
 

@@ -6,7 +6,7 @@ use lib.ListN.{getD}
 use Rattle.varset.specs.Lowest.{pick}
 use Rattle.records.specs.Fields.{kindAt, bAt, sizeAt}
 
--- one level: parts by their nodes, variables by their numbers
+-- one level: parts by their nodes, variables by their numbers; by kind
 pub data Shape : Type 0 where
   nop : Shape
   seq : ℕ → ℕ → Shape
@@ -27,7 +27,7 @@ prior t c = c - sizeAt t c
 unfoldable pub last : ℕ → ℕ
 last i = i - 1
 
--- the shapes of kinds 0 to 14 at node i
+-- the shapes of kinds 0 to 14 at node i; by kind
 unfoldable pub shapes : List ℕ → ℕ → List Shape
 shapes t i =
     let c = last i in
@@ -52,7 +52,7 @@ readsFrom t (suc m) i = pick (eqb (kindAt t i) 2) (read i (bAt t i) ∷ readsFro
 unfoldable pub readsOf : List ℕ → ℕ → List Read
 readsOf t e = readsFrom t (sizeAt t e) (e + 1 - sizeAt t e)
 
--- the whole tree, with the reads of its expressions
+-- the whole tree, with the reads of its expressions; by kind
 pub data Statement : Type 0 where
   Nop : Statement
   Seq : Statement → Statement → Statement
@@ -64,7 +64,7 @@ pub data Statement : Type 0 where
   Assert : List Read → Statement
   Expr : List Read → Statement
 
--- the tree of one level, from the trees of its parts
+-- the tree of one level, from the trees of its parts; by kind
 unfoldable pub grow : (ℕ → List Read) → (ℕ → Statement) → Shape → Statement
 grow r g nop = Nop
 grow r g (seq a b) = Seq (g a) (g b)

@@ -32,12 +32,12 @@ varType s f t n x = pick (ltb x (paramsOf s f)) (paramType s f x) (aAt t (declOf
 unfoldable pub operatorType : ℕ → ℕ
 operatorType a = pick (ltb a 10) 1 2
 
--- the types of kinds 0 to 5: int, bool, variable, operator, &&, call
+-- the types of kinds 0 to 5: int, bool, variable, operator, &&, call; by kind
 unfoldable pub typesOf : List ℕ → ℕ → List ℕ → ℕ → ℕ → List ℕ
 typesOf s f t n i =
     1 ∷ 2 ∷ varType s f t n (bAt t i) ∷ operatorType (aAt t i) ∷ 2 ∷ resultOf s (bAt t i) ∷ []
 
--- the type of node i; kind 15 is the value nothing
+-- the type of node i; kind 15 is the value nothing; by kind
 unfoldable pub typeAt : List ℕ → ℕ → List ℕ → ℕ → ℕ → ℕ
 typeAt s f t n i = pick (eqb (kindAt t i) 15) 0 (getD (typesOf s f t n i) (kindAt t i) unset)
 
@@ -45,7 +45,7 @@ typeAt s f t n i = pick (eqb (kindAt t i) 15) 0 (getD (typesOf s f t n i) (kindA
 unfoldable pub condition : ℕ → ℕ
 condition k = pick (eqb k 0) 2 any
 
--- what kinds 0 to 13 want of child k
+-- what kinds 0 to 13 want of child k; by kind
 unfoldable pub wantsOf : List ℕ → ℕ → List ℕ → ℕ → ℕ → ℕ → List ℕ
 wantsOf s f t n i k =
     any ∷ any ∷ any ∷ 1 ∷ 2 ∷ paramType s (bAt t i) k ∷ any ∷ any ∷ varType s f t n (bAt t i) ∷ any

@@ -28,12 +28,12 @@ andForm (l ∷ []) = ExprForm.stray
 andForm (l ∷ (m ∷ [])) = ExprForm.and l m
 andForm (l ∷ (m ∷ (k ∷ ks))) = ExprForm.stray
 
--- kinds 0 to 5: int, bool, variable, operator, &&, call
+-- kinds 0 to 5: int, bool, variable, operator, &&, call; by kind
 unfoldable pub looks : List ℕ → ℕ → List ExprForm
 looks t i =
     const (int (bAt t i)) ∷ const (truth (eqb (bAt t i) 1)) ∷ ExprForm.var (bAt t i) ∷ apply (op (aAt t i)) (kids t i) ∷ andForm (kids t i) ∷ apply (fn (bAt t i)) (kids t i) ∷ []
 
--- one level of the expression at node i; kind 15 is the value nothing
+-- one level of the expression at node i; kind 15 is the value nothing; by kind
 unfoldable pub lookAt : List ℕ → ℕ → ExprForm
 lookAt t i = pick (eqb (kindAt t i) 15) (const nothing) (getD (looks t i) (kindAt t i) ExprForm.stray)
 
@@ -41,7 +41,7 @@ lookAt t i = pick (eqb (kindAt t i) 15) (const nothing) (getD (looks t i) (kindA
 unfoldable pub refAt : List ℕ → ℕ → Ref
 refAt t i = pick (eqb (kindAt t i) 6) Ref.nop (node i)
 
--- one level of the statement at node i, its statements by their references
+-- one level of the statement at node i, its statements by their references; by kind
 unfoldable pub formOf : List ℕ → ℕ → Shape → StmtForm
 formOf t i Shape.nop = StmtForm.nop
 formOf t i (Shape.seq a b) = StmtForm.seq (refAt t a) (refAt t b)
@@ -59,7 +59,7 @@ unfoldable pub formAt : List ℕ → ℕ → StmtForm
 formAt t zero = pick (eqb (kindAt t 0) 6) StmtForm.nop StmtForm.stray
 formAt t (suc i) = formOf t (suc i) (shapeAt t (suc i))
 
--- the if that a while equals, and the seq in it
+-- the if that a while equals; by kind
 unfoldable pub ifForm : ℕ → StmtForm → StmtForm
 ifForm w (StmtForm.while v e a) = StmtForm.if e (seqOf w) Ref.nop
 ifForm w StmtForm.nop = StmtForm.stray
@@ -72,6 +72,7 @@ ifForm w (StmtForm.assert e) = StmtForm.stray
 ifForm w (StmtForm.expr e) = StmtForm.stray
 ifForm w StmtForm.stray = StmtForm.stray
 
+-- the seq in the if that a while equals; by kind
 unfoldable pub seqForm : ℕ → StmtForm → StmtForm
 seqForm w (StmtForm.while v e a) = StmtForm.seq a (node w)
 seqForm w StmtForm.nop = StmtForm.stray
@@ -91,7 +92,7 @@ seeAt t Ref.nop = StmtForm.nop
 seeAt t (ifOf w) = ifForm w (formAt t w)
 seeAt t (seqOf w) = seqForm w (formAt t w)
 
--- the tree of the if that a while equals, and of the seq in it
+-- the tree of the if that a while equals; by kind
 unfoldable pub unrolled : Statement → Statement
 unrolled (While e s) = If e (Seq s (While e s)) Nop
 unrolled Nop = Nop
@@ -103,6 +104,7 @@ unrolled (Return e) = Nop
 unrolled (Assert e) = Nop
 unrolled (Expr e) = Nop
 
+-- the tree of the seq in the if that a while equals; by kind
 unfoldable pub looped : Statement → Statement
 looped (While e s) = Seq s (While e s)
 looped Nop = Nop

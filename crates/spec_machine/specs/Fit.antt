@@ -30,7 +30,7 @@ WithinLimits (main α) = Unit {0}
 WithinLimits (returned α c) = Unit {0}
 WithinLimits (running c α f η K A) = (1 + length A ≤ callerLimit) × (length K + savedFrameCount A ≤ frameLimit)
 
--- sorts: what an expression, what a statement of a function is
+-- one level of an expression; by kind
 abbrev pub isExpr : ExprForm → Bool
 isExpr (const v) = true
 isExpr (ExprForm.var x) = true
@@ -38,6 +38,7 @@ isExpr (apply h ns) = true
 isExpr (ExprForm.and n m) = true
 isExpr ExprForm.stray = false
 
+-- one level of an expression that is a constant; by kind
 abbrev pub isConst : ExprForm → Bool
 isConst (const v) = true
 isConst (ExprForm.var x) = false
@@ -45,6 +46,7 @@ isConst (apply h ns) = false
 isConst (ExprForm.and n m) = false
 isConst ExprForm.stray = false
 
+-- one level of a statement; by kind
 abbrev pub isStmt : StmtForm → Bool
 isStmt StmtForm.nop = true
 isStmt (StmtForm.seq a b) = true
@@ -57,6 +59,7 @@ isStmt (StmtForm.assert n) = true
 isStmt (StmtForm.expr n) = true
 isStmt StmtForm.stray = false
 
+-- one level of a nop; by kind
 abbrev pub isNop : StmtForm → Bool
 isNop StmtForm.nop = true
 isNop (StmtForm.seq a b) = false
@@ -130,7 +133,7 @@ isSome (truth b) = true
 abbrev pub held : List Value → Set
 held η x = isSome (getD η x nothing)
 
--- frames that are given no value: waiting statements alone
+-- frames that are given no value: waiting statements alone; by frame
 abbrev pub TakesNone : Program → ℕ → List Frame → Type 0
 TakesNone P f [] = Unit {0}
 TakesNone P f (gather h vs ns ∷ K) = ⊥
@@ -142,7 +145,7 @@ TakesNone P f (Frame.leave ∷ K) = ⊥
 TakesNone P f (check ∷ K) = ⊥
 TakesNone P f (Frame.discard ∷ K) = ⊥
 
--- frames that are given a value of type t
+-- frames that are given a value of type t; by frame
 abbrev pub Takes : Program → ℕ → Ty → List Frame → Type 0
 Takes P f t [] = ⊥
 Takes P f t (gather h vs ns ∷ K) = (wants P h ≡ map typeV vs ++ (t ∷ map (typeN P f) ns)) × AllExpr P f ns × Takes P f (gives P h) K × KnownOperation P h
@@ -160,7 +163,7 @@ ControlOver P f (val v) K = Takes P f (typeV v) K
 ControlOver P f (eval n) K = IsExpr P f n × (isConst (P .look f n) ≡ false) × Takes P f (typeN P f n) K
 ControlOver P f (exec r) K = IsStmt P f r × TakesNone P f K
 
--- rule 13 followed through control and frames
+-- rule 13 followed through control and frames; by frame
 abbrev pub Flows : Program → ℕ → List Frame → Set → Type 0
 Flows P f [] d = Unit {0}
 Flows P f (gather h vs ns ∷ K) d = ReadsNodes P f ns d × Flows P f K d
@@ -177,7 +180,7 @@ FlowsFrom P f (val v) K d = Flows P f K d
 FlowsFrom P f (eval n) K d = Reads P f n d × Flows P f K d
 FlowsFrom P f (exec r) K d = Ok P f r d × Flows P f K (leaves (P .stmt f r) d)
 
--- rule 14: some control or frame still to come returns
+-- rule 14: some control or frame still to come returns; by frame
 abbrev pub comes : Program → ℕ → List Frame → Bool
 comes P f [] = false
 comes P f (gather h vs ns ∷ K) = comes P f K
@@ -225,6 +228,7 @@ abbrev pub AllWords : List Value → Type 0
 AllWords [] = Unit {0}
 AllWords (v ∷ vs) = IsWord v × AllWords vs
 
+-- every int in the frames is a word of 32 bits; by frame
 abbrev pub FramesInWords : List Frame → Type 0
 FramesInWords [] = Unit {0}
 FramesInWords (gather h vs ns ∷ K) = AllWords vs × FramesInWords K

@@ -12,7 +12,7 @@ use Rattle.spec_machine.specs.Program.{Operation, op, fn, Ref, ifOf, Exp
 pub data Exception : Type 0 where
   arith abort : Exception
 
--- frames as 002 writes them: nodes of what still waits, values of what is done, nothing of where they came from
+-- frames as 002 writes them: nodes of what still waits, values of what is done, nothing of where they came from; by frame
 pub data Frame : Type 0 where
   gather : Operation → List Value → List ℕ → Frame
   and : ℕ → Frame
@@ -45,13 +45,13 @@ pub data State : Type 0 where
   returned : RunEnv → ℕ → State
   running : Control → RunEnv → ℕ → List Value → List Frame → List Saved → State
 
--- the rules of 002 that the machine uses
+-- the rules of 002 that the machine uses; by kind; by frame
 pub data Rule : Type 0 where
   op-first op-second op-value op-arith and-first and-false and-true var : Rule
   seq nop assign store decl assert assert-true assert-false if if-true if-false while expr discard : Rule
   call-first call-next call-enter call-none return leave value : Rule
 
--- a constant is its own value: reaching it is no step
+-- a constant is its own value: reaching it is no step; by kind
 abbrev pub reachL : ℕ → ExprForm → Control
 reachL n (const v) = val v
 reachL n (ExprForm.var x) = eval n
@@ -89,7 +89,7 @@ pub data Event : Type 0 where
   leaves : Event
   ends : Event
 
--- a rule takes a state to the next, with its event; no order among them and no limits inside
+-- a rule takes a state to the next, with its event; no order among them and no limits inside; by kind; by frame
 pub data Step (P : Program) : Rule → Event → State → State → Type 0 where
   first : {m f : ℕ} {h : Operation} {n : ℕ} {ns : List ℕ} {η : List Value} {K : List Frame} {A : List Saved} {α : RunEnv}
       → P .look f m ≡ apply h (n ∷ ns)

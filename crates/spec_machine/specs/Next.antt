@@ -42,6 +42,7 @@ leaving α (truth t) [] = stuck
 leaving α (int c) [] = goes Rule.leave (returned α c)
 leaving α v (saved g θ L ∷ A) = goes Rule.leave (running (val v) α g θ L A)
 
+-- the next state where a value is at hand; by frame
 abbrev pub give : Program → Value → RunEnv → ℕ → List Value → List Frame → List Saved → Move
 give P v α f η [] A = stuck
 give P v α f η (gather h vs [] ∷ K) A = finish P h vs v α f η K A
@@ -54,6 +55,7 @@ give P v α f η (Frame.leave ∷ K) A = leaving α v A
 give P v α f η (check ∷ K) A = onTruth v (goes Rule.assert-true (running (exec Ref.nop) α f η K A)) (goes Rule.assert-false (exception abort))
 give P v α f η (Frame.discard ∷ K) A = goes Rule.discard (running (exec Ref.nop) α f η K A)
 
+-- the next state where an expression is to be evaluated; by kind
 abbrev pub opens : Program → ExprForm → RunEnv → ℕ → List Value → List Frame → List Saved → Move
 opens P (const v) α f η K A = stuck
 opens P (ExprForm.var x) α f η K A = goes Rule.var (running (val (getD η x nothing)) α f η K A)
@@ -63,6 +65,7 @@ opens P (apply (fn g) []) α f η K A = goes Rule.call-none (running (exec (P .f
 opens P (ExprForm.and n l) α f η K A = goes Rule.and-first (running (reach P f n) α f η (and l ∷ K) A)
 opens P ExprForm.stray α f η K A = stuck
 
+-- the next state where a nop is to be executed; by frame
 abbrev pub passes : RunEnv → ℕ → List Value → List Frame → List Saved → Move
 passes α f η [] A = stuck
 passes α f η (gather h vs ns ∷ K) A = stuck
@@ -74,6 +77,7 @@ passes α f η (Frame.leave ∷ K) A = stuck
 passes α f η (check ∷ K) A = stuck
 passes α f η (Frame.discard ∷ K) A = stuck
 
+-- the next state where a statement is to be executed; by kind
 abbrev pub runs : Program → StmtForm → RunEnv → ℕ → List Value → List Frame → List Saved → Move
 runs P StmtForm.nop α f η K A = passes α f η K A
 runs P (StmtForm.seq a b) α f η K A = goes Rule.seq (running (exec a) α f η (wait b ∷ K) A)

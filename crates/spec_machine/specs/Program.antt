@@ -20,7 +20,7 @@ pub data Ref : Type 0 where
   ifOf : ℕ → Ref
   seqOf : ℕ → Ref
 
--- one level of an expression, its parts by their nodes
+-- one level of an expression, its parts by their nodes; by kind
 pub data ExprForm : Type 0 where
   const : Value → ExprForm
   var : ℕ → ExprForm
@@ -28,7 +28,7 @@ pub data ExprForm : Type 0 where
   and : ℕ → ℕ → ExprForm
   stray : ExprForm
 
--- one level of a statement
+-- one level of a statement; by kind
 pub data StmtForm : Type 0 where
   nop : StmtForm
   seq : Ref → Ref → StmtForm
@@ -48,7 +48,7 @@ pub record Fun : Type 0 where
   pub locals : List Ty
   pub body : Ref
 
--- the tree of one level, from the reads of its expressions and the trees of its statements
+-- the tree of one level, from the reads of its expressions and the trees of its statements; by kind
 abbrev pub growF : (ℕ → List Read) → (Ref → Statement) → StmtForm → Statement
 growF r g nop = Nop
 growF r g (seq a b) = Seq (g a) (g b)
@@ -91,7 +91,7 @@ abbrev pub gives : Program → Operation → Ty
 gives P (op o) = pick (ltb o 10) tInt tBool
 gives P (fn f) = P .fun f .result
 
--- the type of an expression of function f, by its one level
+-- the type of an expression of function f, by its one level; by kind
 abbrev pub typeL : Program → ℕ → ExprForm → Ty
 typeL P f (const v) = typeV v
 typeL P f (var x) = typeOfVar (P .fun f) x

@@ -64,6 +64,7 @@ allHoldTyped [] (t ∷ ts) = false
 allHoldTyped (v ∷ vs) [] = false
 allHoldTyped (v ∷ vs) (t ∷ ts) = holdsTyped v t && allHoldTyped vs ts
 
+-- frames that are given no value; by frame
 abbrev pub takesNone : Program → ℕ → List Frame → Bool
 takesNone P f [] = true
 takesNone P f (gather h vs ns ∷ K) = false
@@ -75,6 +76,7 @@ takesNone P f (Frame.leave ∷ K) = false
 takesNone P f (check ∷ K) = false
 takesNone P f (Frame.discard ∷ K) = false
 
+-- frames that are given a value of type t; by frame
 abbrev pub takes : Program → ℕ → Ty → List Frame → Bool
 takes P f t [] = false
 takes P f t (gather h vs ns ∷ K) = areTy (wants P h) (map typeV vs ++ (t ∷ map (typeN P f) ns)) && (exprsIn P f ns && (takes P f (gives P h) K && knownOperation P h))
@@ -95,6 +97,7 @@ abbrev pub readsNodes : Program → ℕ → List ℕ → Set → Bool
 readsNodes P f [] d = true
 readsNodes P f (n ∷ ns) d = reads P f n d && readsNodes P f ns d
 
+-- rule 13 followed through frames; by frame
 abbrev pub flows : Program → ℕ → List Frame → Set → Bool
 flows P f [] d = true
 flows P f (gather h vs ns ∷ K) d = readsNodes P f ns d && flows P f K d
@@ -126,6 +129,7 @@ abbrev pub allWords : List Value → Bool
 allWords [] = true
 allWords (v ∷ vs) = isWord v && allWords vs
 
+-- every int in the frames is a word of 32 bits; by frame
 abbrev pub framesInWords : List Frame → Bool
 framesInWords [] = true
 framesInWords (gather h vs ns ∷ K) = allWords vs && framesInWords K

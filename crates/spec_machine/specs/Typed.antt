@@ -23,7 +23,7 @@ AllOf (v ∷ vs) (t ∷ ts) = Of v t × AllOf vs ts
 abbrev pub VariablesTyped : Program → ℕ → List Value → Type 0
 VariablesTyped P f η = (x : ℕ) → held η x ≡ true → Of (getD η x nothing) (typeOfVar (P .fun f) x)
 
--- operands are what the operator wants at their places, arguments what the parameters want at theirs
+-- operands are what the operator wants at their places, arguments what the parameters want at theirs; by frame
 abbrev pub OperandsTyped : Program → List Frame → Type 0
 OperandsTyped P [] = Unit {0}
 OperandsTyped P (gather h vs ns ∷ K) = AllOf vs (wants P h) × OperandsTyped P K
@@ -35,7 +35,7 @@ OperandsTyped P (Frame.leave ∷ K) = OperandsTyped P K
 OperandsTyped P (check ∷ K) = OperandsTyped P K
 OperandsTyped P (Frame.discard ∷ K) = OperandsTyped P K
 
--- the value at hand is of the type that the frame under it wants: as an operand or argument it is the next one; discard takes any
+-- the value at hand is of the type that the frame under it wants: as an operand or argument it is the next one; discard takes any; by frame
 abbrev pub AtHand : Program → ℕ → Value → List Frame → Type 0
 AtHand P f v [] = Of v tInt
 AtHand P f v (gather h vs ns ∷ K) = AllOf (vs ++ (v ∷ [])) (wants P h)

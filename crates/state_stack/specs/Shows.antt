@@ -18,7 +18,7 @@ pub record Gathers (fr : Frame) (h : Operation) (y z : ℕ) : Type 0 where
   pub done : y ≡ length values
   pub waits : z ≡ length nodes
 
--- the frame that the view shows
+-- the frame that the view shows; by frame
 unfoldable pub Shows : Top → Frame → Type 0
 Shows (Operator o y z) fr = Gathers fr (op o) y z
 Shows (Call g y z) fr = Gathers fr (fn g) y z

@@ -20,7 +20,7 @@ ghost use Rattle.spec_image.specs.Image.{savedFrames};
 ghost use Rattle.spec_image.specs.Core.{core, HoldingTopCore};
 ghost use Rattle.state_stack.specs.Shows.{Shows};
 
-// A frame: what gathers, with how many values it has and how many nodes wait, or one of the frames without operands.
+// A frame: what gathers, with how many values it has and how many nodes wait, or one of the frames without operands; by frame.
 pub enum Top {
     Operator(u32, u32, u32),
     Call(u32, u32, u32),
@@ -33,7 +33,7 @@ pub enum Top {
     Discard,
 }
 
-// The top frame over n frames.
+// The top frame over n frames; by frame.
 pub fn top_frame(m: &[u32], n: usize) -> Top
     requires { ⌜ (size ≤ length (now m)) × (n < frameRoom) ⌝ }
     ensures { λ r. ⌜ HoldingTopCore (now (m .entry)) (λ f η fr K A R. length A < callerRoom → n ≡ length (K ++ savedFrames A) → Shows r fr) ⌝ }

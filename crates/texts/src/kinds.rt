@@ -20,7 +20,7 @@ pub fn put_operator(a: u8, out: &mut [u8], at: usize) -> usize
     )
 }
 
-// Puts a kind by its name, and after it the operator, the variable or the function that the node names.
+// Puts a kind by its name, and after it the operator, the variable or the function that the node names; by kind.
 pub fn put_kind(kind: u8, a: u8, b: u32, out: &mut [u8], at: usize) -> usize
     ensures { λ r. ⌜ r ≤ length (now (out .exit)) ⌝ }
 {
