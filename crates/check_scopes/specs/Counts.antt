@@ -25,6 +25,6 @@ pub record Counts (t : List ℕ) (i : ℕ) (d : Declared) : Type 0 where
 abbrev pub Decls : List ℕ → ℕ → List ℕ → Type 0
 Decls t n table = (x : ℕ) → x < mostVariables → getD table x 0 ≡ declOf t n x
 
--- so does one of 64 entries, which is being filled
+-- a table of 64 entries that has these decls, while it is being filled
 abbrev pub Noted : List ℕ → ℕ → List ℕ → Type 0
 Noted t n table = (length table ≡ mostVariables) × Decls t n table

@@ -9,6 +9,7 @@ use Rattle.records.specs.Parts.{startOf, partOf}
 use Rattle.spec_language.specs.Types as types
 use Rattle.spec_machine.specs.Values.{Value, nothing}
 use Rattle.spec_machine.specs.Machine.{Frame, Control, Saved, saved, emptyEnv, running, entered, blank}
+use Rattle.spec_machine.specs.Fit.{callerLimit, frameLimit}
 use Rattle.spec_machine.specs.File.{funOf}
 use Rattle.spec_machine.proofs.Operands.{types-length}
 use Rattle.spec_image.specs.Image.{savedFrames}

@@ -1,4 +1,4 @@
--- Steps by what they do to the head, the frames and the limits.
+-- Steps by what they do to the registers, the frames and the limits.
 use mathlib.Core.Path.{_≡_, refl, sym, _∙_}
 use mathlib.Core.Bool.{true, false, and-false, true≢false}
 use mathlib.Core.List.{List, _∷_, _++_}
