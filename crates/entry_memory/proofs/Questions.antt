@@ -107,8 +107,8 @@ module _ (s m : List ℕ) (x : ℕ) where
       let a : lookVerdict s m x ≡ refused 17 0 0 = look-late e ∙ rw q in
       rw a
 
-  pub look-told : memoryAnswer s m ≡ accepted → isPresent (lookUp (stateOf m) x) ≡ true → lookAnswer s m x ≡ granted (valueOr (lookUp (stateOf m) x))
+  pub look-granted : memoryAnswer s m ≡ accepted → isPresent (lookUp (stateOf m) x) ≡ true → lookAnswer s m x ≡ granted (valueOr (lookUp (stateOf m) x))
   unfolding lookAnswer byVerdict variableIn firstRefusal refuse unless
-  look-told e q =
+  look-granted e q =
       let a : lookVerdict s m x ≡ accepted = look-late e ∙ rw q in
       rw a

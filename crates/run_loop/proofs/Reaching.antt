@@ -41,7 +41,7 @@ pub record Reached (s : List ℕ) (n d : ℕ) (σ : State) (k : ℕ) (c : code.C
   pub frames : List Frame
   pub callers : List Saved
   pub held : m ≡ core function variables frames callers ++ R
-  pub tells : Describes s h function frames callers
+  pub describes : Describes s h function frames callers
   pub fit : Fit (programOf s) (running (controlIs c) emptyEnv function variables frames callers)
   pub then : (o : Outcome) (st : ℕ) (m' : List ℕ) → Ends k (runOf (programOf s) (n - k) (running (controlIs c) emptyEnv function variables frames callers)) o st m' R
       → Ends d (runOf (programOf s) (n - d) σ) o st m' R
@@ -51,13 +51,13 @@ pub reached : (s : List ℕ) (n d : ℕ) (c : code.Control) (h : Registers) (m R
     → m ≡ core f η K A ++ R → Describes s h f K A → Fit (programOf s) (running (controlIs c) emptyEnv f η K A)
     → Reached s n d (running (controlIs c) emptyEnv f η K A) d c h m R
 reached s n d c h m R f η K A e t q =
-    record { function = f; variables = η; frames = K; callers = A; held = e; tells = t; fit = q; then = λ o st m' x. x }
+    record { function = f; variables = η; frames = K; callers = A; held = e; describes = t; fit = q; then = λ o st m' x. x }
 
 -- it is where a step may be taken
-pub reached-stands : (s table : List ℕ) (n d : ℕ) (σ : State) (k : ℕ) (c : code.Control) (h : Registers) (m R : List ℕ) → checkOf s ≡ accepted → Starts s table
+pub reached-at-fit : (s table : List ℕ) (n d : ℕ) (σ : State) (k : ℕ) (c : code.Control) (h : Registers) (m R : List ℕ) → checkOf s ≡ accepted → Starts s table
     → Reached s n d σ k c h m R → AtFitState s table (controlIs c) h m
-reached-stands s table n d σ k c h m R p i r =
-    let q = sym (r .tells .function) in
+reached-at-fit s table n d σ k c h m R p i r =
+    let q = sym (r .describes .function) in
     record {
       passed = p;
       starts = i;
@@ -66,7 +66,7 @@ reached-stands s table n d σ k c h m R p i r =
       callers = r .callers;
       rest = R;
       held = rw q at (r .held);
-      tells = rw q at (r .tells);
+      describes = rw q at (r .describes);
       fit = rw q at (r .fit);
     }
 
@@ -97,7 +97,7 @@ module _ (s : List ℕ) (bytes : (i : ℕ) → getD s i 0 < 256) (passed : check
         frames = o .frames;
         callers = o .callers;
         held = o .held;
-        tells = o .tells;
+        describes = o .describes;
         fit = rw (o .is) at f;
         then = λ x st l z. r .then x st l (ends-step (programOf s) n k here (applies .state) (applies .rule) less e (o .limits) (rw (o .is) z));
       }
@@ -133,4 +133,4 @@ module _ (s : List ℕ) (bytes : (i : ℕ) → getD s i 0 < 256) (passed : check
 
 -- its limits
 pub reached-bounds : (s : List ℕ) (n d : ℕ) (σ : State) (k : ℕ) (c : code.Control) (h : Registers) (m R : List ℕ) → Reached s n d σ k c h m R → 16384 ≤ length m → Bounds h m
-reached-bounds s n d σ k c h m R r l = let q = limited (r .tells) (r .fit) in (l, q .0, q .1)
+reached-bounds s n d σ k c h m R r l = let q = limited (r .describes) (r .fit) in (l, q .0, q .1)

@@ -74,13 +74,13 @@ module _ (s : List ℕ) (passed : checkOf s ≡ accepted) (l : List ℕ) (c : Co
         = rw (held, activations-in σ R (fit-narrow (programOf s) (file-sized s passed) σ fit)) (frames-held σ) in
         t ∙ u ∙ length-append K (savedFrames A)
 
-    pub resumed-tells : (g st n k u : ℕ) → g ≡ f → st ≡ 12 * startOf s f → n ≡ countOf s f → k ≡ length K → u ≡ heldIn l (a + 1) - k
+    pub resumed-describes : (g st n k u : ℕ) → g ≡ f → st ≡ 12 * startOf s f → n ≡ countOf s f → k ≡ length K → u ≡ heldIn l (a + 1) - k
         → Describes s (record { function = g; start = st; count = n; callers = a; frames = k; under = u }) f K A
-    resumed-tells g st n k u hg hs hn hk hu =
+    resumed-describes g st n k u hg hs hn hk hu =
         record { function = hg; start = hs; count = hn; callers = resumed-callers; frames = hk; under = omega (arith, hk, hu, resumed-total) }
 
-    pub resumed-stands : (table : List ℕ) (d : code.Control) (h : Registers) (m : List ℕ) → Starts s table → Describes s h f K A → controlIs d ≡ c → m ≡ core f η K A ++ R → AtFitState s table (controlIs d) h m
-    resumed-stands table d h m i t e k =
+    pub resumed-at-fit : (table : List ℕ) (d : code.Control) (h : Registers) (m : List ℕ) → Starts s table → Describes s h f K A → controlIs d ≡ c → m ≡ core f η K A ++ R → AtFitState s table (controlIs d) h m
+    resumed-at-fit table d h m i t e k =
         let q = sym (t .function) in
         let g : Fit (programOf s) (running (controlIs d) emptyEnv f η K A) = rw e fit in
         record {
@@ -91,7 +91,7 @@ module _ (s : List ℕ) (passed : checkOf s ≡ accepted) (l : List ℕ) (c : Co
           callers = A;
           rest = R;
           held = rw q at k;
-          tells = rw q at t;
+          describes = rw q at t;
           fit = rw q at g;
         }
 

@@ -74,14 +74,14 @@ module _ (s : List ℕ) (passed : checkOf s ≡ accepted) where
     pub begun-fit : ((i : ℕ) → getD s i 0 < 256) → Fit (programOf s) (running (controlIs (Exec b)) emptyEnv 0 (replicate c nothing) [] [])
     begun-fit bytes = rw entry-is (entry-fit bytes)
 
-    pub begun-tells : (st n : ℕ) → st ≡ 12 * startOf s 0 → n ≡ countOf s 0 → Describes s (record { function = 0; start = st; count = n; callers = 0; frames = 0; under = 0 }) 0 [] []
+    pub begun-describes : (st n : ℕ) → st ≡ 12 * startOf s 0 → n ≡ countOf s 0 → Describes s (record { function = 0; start = st; count = n; callers = 0; frames = 0; under = 0 }) 0 [] []
     unfolding savedFrames
-    begun-tells st n hs hn = record { function = refl; start = hs; count = hn; callers = refl; frames = refl; under = refl }
+    begun-describes st n hs hn = record { function = refl; start = hs; count = hn; callers = refl; frames = refl; under = refl }
 
-    pub begun-stands : (bytes : (i : ℕ) → getD s i 0 < 256) (table : List ℕ) (st n : ℕ) (l R : List ℕ) → Starts s table → st ≡ 12 * startOf s 0 → n ≡ countOf s 0
+    pub begun-at-fit : (bytes : (i : ℕ) → getD s i 0 < 256) (table : List ℕ) (st n : ℕ) (l R : List ℕ) → Starts s table → st ≡ 12 * startOf s 0 → n ≡ countOf s 0
         → l ≡ core 0 (replicate c nothing) [] [] ++ R
         → AtFitState s table (controlIs (Exec b)) (record { function = 0; start = st; count = n; callers = 0; frames = 0; under = 0 }) l
-    begun-stands bytes table st n l R h hs hn e =
+    begun-at-fit bytes table st n l R h hs hn e =
         record {
           passed = passed;
           starts = h;
@@ -90,7 +90,7 @@ module _ (s : List ℕ) (passed : checkOf s ≡ accepted) where
           callers = [];
           rest = R;
           held = e;
-          tells = begun-tells st n hs hn;
+          describes = begun-describes st n hs hn;
           fit = begun-fit bytes;
         }
 

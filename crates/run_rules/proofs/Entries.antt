@@ -39,18 +39,18 @@ pub entered-some : (s : List ℕ) (g y : ℕ) (vs : List Value) → paramsOf s g
 entered-some s g y vs e = ap (λ (l : List Value). vs ++ l) (sym (locals-blank s g ∙ rw e))
 
 -- the head of the function entered
-pub entered-tells : (s : List ℕ) (f : ℕ) (η : List Value) (K : List Frame) (A : List Saved) (g st n a u : ℕ)
+pub entered-describes : (s : List ℕ) (f : ℕ) (η : List Value) (K : List Frame) (A : List Saved) (g st n a u : ℕ)
     → st ≡ 12 * startOf s g → n ≡ countOf s g → a ≡ suc (length A) → u ≡ length (K ++ savedFrames A)
     → Describes s (record { function = g; start = st; count = n; callers = a; frames = 0; under = u }) g [] (saved f η K ∷ A)
 unfolding savedFrames
-entered-tells s f η K A g st n a u hs hn ha hu = record { function = refl; start = hs; count = hn; callers = ha; frames = refl; under = hu }
+entered-describes s f η K A g st n a u hs hn ha hu = record { function = refl; start = hs; count = hn; callers = ha; frames = refl; under = hu }
 
 -- the head of the function left for
-pub left-tells : (s : List ℕ) (h : Registers) (f : ℕ) (J : List Frame) (g : ℕ) (θ : List Value) (L : List Frame) (A : List Saved) (r st n a k u : ℕ)
+pub left-describes : (s : List ℕ) (h : Registers) (f : ℕ) (J : List Frame) (g : ℕ) (θ : List Value) (L : List Frame) (A : List Saved) (r st n a k u : ℕ)
     → Describes s h f J (saved g θ L ∷ A) → r ≡ g → st ≡ 12 * startOf s g → n ≡ countOf s g → a + 1 ≡ h .callers → k ≡ length L → u ≡ h .under - k
     → Describes s (record { function = r; start = st; count = n; callers = a; frames = k; under = u }) g L A
 unfolding savedFrames
-left-tells s h f J g θ L A r st n a k u t hr hs hn ha hk hu =
+left-describes s h f J g θ L A r st n a k u t hr hs hn ha hk hu =
     record {
       function = hr;
       start = hs;

@@ -65,7 +65,7 @@ on s c h l m R f η K A e t a k =
       callers = A;
       is = refl;
       held = e;
-      tells = t;
+      describes = t;
       limits = within-yes (controlIs c) emptyEnv f η K A (omega (arith, t .callers, a)) (omega (arith, t .under, t .frames, k));
     }
 

@@ -51,7 +51,7 @@ pub record Called (s : List ℕ) (h : Registers) (l : List ℕ) : Type 0 where
   pub callers : List Saved
   pub rest : List ℕ
   pub held : l ≡ core function variables frames (saved caller callerVariables callerFrames ∷ callers) ++ rest
-  pub tells : Describes s h function frames (saved caller callerVariables callerFrames ∷ callers)
+  pub describes : Describes s h function frames (saved caller callerVariables callerFrames ∷ callers)
   pub known : caller < functions s
 
 -- the state t goes on with the control c, and the memory m and the registers h hold the rest of it
@@ -62,7 +62,7 @@ pub record Continues (s : List ℕ) (c : Control) (h : Registers) (m R : List �
   pub callers : List Saved
   pub is : t ≡ running (controlIs c) emptyEnv function variables frames callers
   pub held : m ≡ core function variables frames callers ++ R
-  pub tells : Describes s h function frames callers
+  pub describes : Describes s h function frames callers
   pub limits : withinLimits t ≡ true
 
 -- the words of a state are all zero

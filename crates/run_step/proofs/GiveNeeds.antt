@@ -41,11 +41,11 @@ pub record Over (s table : List ℕ) (v : values.Value) (h : code.Registers) (l 
   pub callers : List Saved
   pub rest : List ℕ
   pub held : l ≡ core (h .function) variables (top ∷ frames) callers ++ rest
-  pub tells : Describes s h (h .function) (top ∷ frames) callers
+  pub describes : Describes s h (h .function) (top ∷ frames) callers
   pub fit : fit.Fit (programOf s) (running (val v) emptyEnv (h .function) variables (top ∷ frames) callers)
 
 pub over : (s table : List ℕ) (v : values.Value) (h : code.Registers) (l : List ℕ) → AtFitState s table (val v) h l → Over s table v h l
-over s table v h l st = go (st .frames) (st .held) (st .tells) (st .fit)
+over s table v h l st = go (st .frames) (st .held) (st .describes) (st .fit)
   where
     go : (K : List Frame) → l ≡ core (h .function) (st .variables) K (st .callers) ++ st .rest → Describes s h (h .function) K (st .callers)
         → fit.Fit (programOf s) (running (val v) emptyEnv (h .function) (st .variables) K (st .callers)) → Over s table v h l
@@ -60,7 +60,7 @@ over s table v h l st = go (st .frames) (st .held) (st .tells) (st .fit)
           callers = st .callers;
           rest = st .rest;
           held = e;
-          tells = t;
+          describes = t;
           fit = f;
         }
 
@@ -78,16 +78,16 @@ empty (x ∷ l) z e h = absurd (omega arith)
 
 module _ (s table : List ℕ) (v : Value) (h : code.Registers) (l : List ℕ) (x : Over s table (valueIs v) h l) where
   pub framed : 1 ≤ h .frames
-  framed = omega (arith, x .tells .frames)
+  framed = omega (arith, x .describes .frames)
 
   pub bounded : size ≤ length l → Bounds h l
-  bounded n = let q = limited (x .tells) (x .fit) in (n, q .0, q .1)
+  bounded n = let q = limited (x .describes) (x .fit) in (n, q .0, q .1)
 
   pub few : length (x .callers) < callerRoom
-  few = omega (arith, limited (x .tells) (x .fit) .0, x .tells .callers)
+  few = omega (arith, limited (x .describes) (x .fit) .0, x .describes .callers)
 
   pub under : h .under + (h .frames - 1) ≡ length (x .frames ++ savedFrames (x .callers))
-  under = counted-under (x .tells) (h .frames - 1) (omega (arith, framed))
+  under = counted-under (x .describes) (h .frames - 1) (omega (arith, framed))
 
   abbrev pub place : ℕ
   place = framesAt + (h .under + (h .frames - 1)) * frameSize
@@ -142,13 +142,13 @@ module _ (s table : List ℕ) (v : Value) (h : code.Registers) (l : List ℕ) (x
       go [] i =
           let q = main-int s (x .passed) (h .function) (x .variables) (valueIs v) (x .frames) (x .callers) (rw e at (x .fit)) i in
           is-int v (q .word) (q .is)
-      go (saved g θ L ∷ A) i = absurd (omega (arith, x .tells .callers, ap length i))
+      go (saved g θ L ∷ A) i = absurd (omega (arith, x .describes .callers, ap length i))
 
   pub leave-ready : x .top ≡ Frame.leave → 1 ≤ h .callers → Called s h l
   leave-ready e z = go (x .callers) refl
     where
       go : (A : List Saved) → x .callers ≡ A → Called s h l
-      go [] i = absurd (omega (arith, x .tells .callers, ap length i))
+      go [] i = absurd (omega (arith, x .describes .callers, ap length i))
       go (saved g θ L ∷ A) i =
           record {
             function = h .function;
@@ -160,7 +160,7 @@ module _ (s table : List ℕ) (v : Value) (h : code.Registers) (l : List ℕ) (x
             callers = A;
             rest = x .rest;
             held = rw i at (x .held);
-            tells = rw i at (x .tells);
+            describes = rw i at (x .describes);
             known = caller-known s (x .passed) (h .function) (x .variables) (valueIs v) (x .frames) (x .callers) (rw e at (x .fit)) g θ L A i;
           }
 

@@ -30,68 +30,68 @@ unfolding programOf
 gives-operator s r l m R f η fr K A v o a b w i d = rw (w, i) d
 
 module _ (s : List ℕ) (r : Stepped) (h : code.Registers) (l m R : List ℕ) (f : ℕ) (η : List Value) (fr : Frame) (K : List Frame) (A : List Saved) (v : Value)
-    (passed : checkOf s ≡ accepted) (held : l ≡ core f η (fr ∷ K) A ++ R) (tells : Describes s h f (fr ∷ K) A)
+    (passed : checkOf s ≡ accepted) (held : l ≡ core f η (fr ∷ K) A ++ R) (describes : Describes s h f (fr ∷ K) A)
     (fit : Fit (programOf s) (running (val v) emptyEnv f η (fr ∷ K) A)) where
   -- it is done for a given frame
-  abbrev Gave : Type 0
-  Gave = StepsBy s r l m R (give (programOf s) v emptyEnv f η (fr ∷ K) A)
+  abbrev GiveSteps : Type 0
+  GiveSteps = StepsBy s r l m R (give (programOf s) v emptyEnv f η (fr ∷ K) A)
 
   module _ (y z : ℕ) where
-    pub gave-operator : (o : ℕ) → Gathers fr (op o) y z → z ≡ 0
+    pub give-operator : (o : ℕ) → Gathers fr (op o) y z → z ≡ 0
         → ((a b : ℕ) → l ≡ core f η (gather (op o) (int a ∷ []) [] ∷ K) A ++ R → Describes s h f (gather (op o) (int a ∷ []) [] ∷ K) A → v ≡ int b
-        → StepsBy s r l m R (settle emptyEnv f η K A (result (getD s 8 0) o a b))) → Gave
+        → StepsBy s r l m R (settle emptyEnv f η K A (result (getD s 8 0) o a b))) → GiveSteps
     unfolding programOf
-    gave-operator o g e q =
+    give-operator o g e q =
         let n = empty (g .nodes) z (g .waits) e in
         let i = ints s passed f η v K A o (g .values) (g .nodes) (rw (g .is) at fit) n in
         let w : fr ≡ gather (op o) (int (i .first) ∷ []) [] = shaped (g .is) (i .stored) n in
-        let d = q (i .first) (i .second) (rw w at held) (rw w at tells) (i .hand) in
+        let d = q (i .first) (i .second) (rw w at held) (rw w at describes) (i .hand) in
         gives-operator s r l m R f η fr K A v o (i .first) (i .second) w (i .hand) d
 
-    pub gave-next : (k : Operation) (t : List ℕ) → t ≡ partOf s f → Gathers fr k y z → (z ≡ 0 → ⊥)
+    pub give-next : (k : Operation) (t : List ℕ) → t ≡ partOf s f → Gathers fr k y z → (z ≡ 0 → ⊥)
         → ((vs : List Value) (e : ℕ) (ns : List ℕ) → l ≡ core f η (gather k vs (e ∷ ns) ∷ K) A ++ R → Describes s h f (gather k vs (e ∷ ns) ∷ K) A
         → length vs + suc (length ns) ≤ 7 → y ≡ length vs → z ≡ suc (length ns)
-        → StepsTo s r l m R (running (reachL e (lookAt t e)) emptyEnv f η (gather k (vs ++ (v ∷ [])) ns ∷ K) A)) → Gave
+        → StepsTo s r l m R (running (reachL e (lookAt t e)) emptyEnv f η (gather k (vs ++ (v ∷ [])) ns ∷ K) A)) → GiveSteps
     unfolding programOf
-    gave-next k t part g e q = go (g .nodes) (g .is) (g .waits)
+    give-next k t part g e q = go (g .nodes) (g .is) (g .waits)
       where
-        go : (ns : List ℕ) → fr ≡ gather k (g .values) ns → z ≡ length ns → Gave
+        go : (ns : List ℕ) → fr ≡ gather k (g .values) ns → z ≡ length ns → GiveSteps
         go [] i w = absurd (e w)
         go (d ∷ ns) i w =
             let n = waits s passed f η v K A k (g .values) d ns (rw i at fit) .0 in
-            rw (i, ← part) (q (g .values) d ns (rw i at held) (rw i at tells) n (g .done) w)
+            rw (i, ← part) (q (g .values) d ns (rw i at held) (rw i at describes) n (g .done) w)
 
-    pub gave-call : (k : ℕ) → Gathers fr (fn k) y z → z ≡ 0
+    pub give-call : (k : ℕ) → Gathers fr (fn k) y z → z ≡ 0
         → ((vs : List Value) → l ≡ core f η (gather (fn k) vs [] ∷ K) A ++ R → Describes s h f (gather (fn k) vs [] ∷ K) A → y ≡ length vs
         → paramsOf s k ≡ suc y → suc y ≤ varsOf s k
-        → StepsTo s r l m R (running (exec (funOf s k .body)) emptyEnv k (entered (funOf s k) (vs ++ (v ∷ []))) [] (saved f η K ∷ A))) → Gave
+        → StepsTo s r l m R (running (exec (funOf s k .body)) emptyEnv k (entered (funOf s k) (vs ++ (v ∷ []))) [] (saved f η K ∷ A))) → GiveSteps
     unfolding programOf
-    gave-call k g e q =
+    give-call k g e q =
         let n = empty (g .nodes) z (g .waits) e in
         let i : fr ≡ gather (fn k) (g .values) [] = shaped (g .is) refl n in
         let p = arguments s passed f η v K A k (g .values) (g .nodes) (rw (g .is) at fit) n in
         let d = g .done in
-        rw i (q (g .values) (rw i at held) (rw i at tells) d (omega (arith, d, p .1)) (omega (arith, d, p .2)))
+        rw i (q (g .values) (rw i at held) (rw i at describes) d (omega (arith, d, p .1)) (omega (arith, d, p .2)))
 
-  pub gave-and : (n : ℕ) (t : List ℕ) → t ≡ partOf s f → fr ≡ and n
-      → StepsBy s r l m R (onTruth v (goes Rule.and-true (running (reachL n (lookAt t n)) emptyEnv f η K A)) (goes Rule.and-false (running (val (truth false)) emptyEnv f η K A))) → Gave
+  pub give-and : (n : ℕ) (t : List ℕ) → t ≡ partOf s f → fr ≡ and n
+      → StepsBy s r l m R (onTruth v (goes Rule.and-true (running (reachL n (lookAt t n)) emptyEnv f η K A)) (goes Rule.and-false (running (val (truth false)) emptyEnv f η K A))) → GiveSteps
   unfolding programOf
-  gave-and n t part e q = rw (e, ← part) q
+  give-and n t part e q = rw (e, ← part) q
 
-  pub gave-store : (x : ℕ) → fr ≡ Frame.store x
-      → (x < length η → length η ≤ 64 → StepsTo s r l m R (running (exec Ref.nop) emptyEnv f (set η x v) K A)) → Gave
-  gave-store x e q = let p = assigned s passed f η v K A x (rw e at fit) in rw e (q (p .0) (p .1))
+  pub give-store : (x : ℕ) → fr ≡ Frame.store x
+      → (x < length η → length η ≤ 64 → StepsTo s r l m R (running (exec Ref.nop) emptyEnv f (set η x v) K A)) → GiveSteps
+  give-store x e q = let p = assigned s passed f η v K A x (rw e at fit) in rw e (q (p .0) (p .1))
 
-  pub gave-branch : (a b : Ref) → fr ≡ branch a b
-      → StepsBy s r l m R (onTruth v (goes Rule.if-true (running (exec a) emptyEnv f η K A)) (goes Rule.if-false (running (exec b) emptyEnv f η K A))) → Gave
-  gave-branch a b e q = rw e q
+  pub give-branch : (a b : Ref) → fr ≡ branch a b
+      → StepsBy s r l m R (onTruth v (goes Rule.if-true (running (exec a) emptyEnv f η K A)) (goes Rule.if-false (running (exec b) emptyEnv f η K A))) → GiveSteps
+  give-branch a b e q = rw e q
 
-  pub gave-leave : fr ≡ Frame.leave → StepsBy s r l m R (leaving emptyEnv v A) → Gave
-  gave-leave e q = rw e q
+  pub give-leave : fr ≡ Frame.leave → StepsBy s r l m R (leaving emptyEnv v A) → GiveSteps
+  give-leave e q = rw e q
 
-  pub gave-assert : fr ≡ check
-      → StepsBy s r l m R (onTruth v (goes Rule.assert-true (running (exec Ref.nop) emptyEnv f η K A)) (goes Rule.assert-false (exception abort))) → Gave
-  gave-assert e q = rw e q
+  pub give-assert : fr ≡ check
+      → StepsBy s r l m R (onTruth v (goes Rule.assert-true (running (exec Ref.nop) emptyEnv f η K A)) (goes Rule.assert-false (exception abort))) → GiveSteps
+  give-assert e q = rw e q
 
-  pub gave-discard : fr ≡ Frame.discard → StepsTo s r l m R (running (exec Ref.nop) emptyEnv f η K A) → Gave
-  gave-discard e q = rw e q
+  pub give-discard : fr ≡ Frame.discard → StepsTo s r l m R (running (exec Ref.nop) emptyEnv f η K A) → GiveSteps
+  give-discard e q = rw e q

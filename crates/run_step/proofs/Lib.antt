@@ -11,4 +11,4 @@ pub mod Loops
 pub mod Executions
 pub mod GiveNeeds
 pub mod GiveResult
-pub mod Standing
+pub mod FitStates

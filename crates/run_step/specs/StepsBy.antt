@@ -67,7 +67,7 @@ pub record AtFitState (s table : List ℕ) (c : Control) (h : Registers) (l : Li
   pub callers : List Saved
   pub rest : List ℕ
   pub held : l ≡ core (h .function) variables frames callers ++ rest
-  pub tells : Describes s h (h .function) frames callers
+  pub describes : Describes s h (h .function) frames callers
   pub fit : Fit (programOf s) (running c emptyEnv (h .function) variables frames callers)
 
 -- the step of a move, which is not stuck

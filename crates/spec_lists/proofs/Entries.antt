@@ -35,25 +35,25 @@ passed? : (v : Verdict) → Dec (IsAccepted v)
 passed? accepted = yes tt
 passed? (refused q p x) = no (λ h. h)
 
-tells? : {A : Type 0} (a : Result A) → Dec (IsGranted a)
-tells? (granted a) = yes tt
-tells? (denied q p x) = no (λ h. h)
+describes? : {A : Type 0} (a : Result A) → Dec (IsGranted a)
+describes? (granted a) = yes tt
+describes? (denied q p x) = no (λ h. h)
 
 pub took? : (k : CallKind) (a : AnswerType k) → Dec (Took k a)
 took? CallKind.start a = passed? a
-took? CallKind.run a = tells? a
+took? CallKind.run a = describes? a
 took? CallKind.memory a = passed? a
-took? CallKind.look a = tells? a
+took? CallKind.look a = describes? a
 
 -- an answer that is no refusal is the one to an accepted verdict
 passed-is : (v : Verdict) → IsAccepted v → v ≡ accepted
 passed-is accepted h = refl
 passed-is (refused q p x) h = absurd h
 
-tells-is : {A : Type 0} (v : Verdict) (a : A) → IsGranted (byVerdict v a) → v ≡ accepted
+describes-is : {A : Type 0} (v : Verdict) (a : A) → IsGranted (byVerdict v a) → v ≡ accepted
 unfolding byVerdict
-tells-is accepted a h = refl
-tells-is (refused q p x) a h = absurd h
+describes-is accepted a h = refl
+describes-is (refused q p x) a h = absurd h
 
 -- a refusal writes nothing
 not-written : (v : Verdict) (m : List ℕ) (s : State) → ¬ IsAccepted v → written v m s ≡ m
@@ -61,15 +61,15 @@ unfolding written
 not-written accepted m s n = absurd (n tt)
 not-written (refused q p x) m s n = refl
 
-not-told : {A : Type 0} (v : Verdict) (a : A) → ¬ IsGranted (byVerdict v a) → ¬ IsAccepted v
+not-granted : {A : Type 0} (v : Verdict) (a : A) → ¬ IsGranted (byVerdict v a) → ¬ IsAccepted v
 unfolding byVerdict
-not-told accepted a n = n
-not-told (refused q p x) a n = n
+not-granted accepted a n = n
+not-granted (refused q p x) a n = n
 
 pub refusal : (k : CallKind) (i : Input k) (m : List ℕ) → ¬ Took k (answerOf k i m) → memoryAfter k i m ≡ m
 unfolding startMemory runMemory runAnswer
 refusal CallKind.start i m n = not-written (startAnswer (i .bytes) m) m (main emptyEnv) n
-refusal CallKind.run i m n = not-written (memoryAnswer (i .file .bytes) m) m _ (not-told (memoryAnswer (i .file .bytes) m) (runFrom (i .file .bytes) m (i .number)) n)
+refusal CallKind.run i m n = not-written (memoryAnswer (i .file .bytes) m) m _ (not-granted (memoryAnswer (i .file .bytes) m) (runFrom (i .file .bytes) m (i .number)) n)
 refusal CallKind.memory i m n = refl
 refusal CallKind.look i m n = refl
 
@@ -138,9 +138,9 @@ module _ (M : List ℕ) where
   pub owes : (k : CallKind) (i : Input k) (m : List ℕ) (σ : Machine) → Between (givenOf k i .bytes) m σ → Took k (answerOf k i m) → Owed k i m σ
   unfolding runAnswer lookAnswer
   owes CallKind.start i m σ a t = start-owes i m σ a (passed-is (startAnswer (i .bytes) m) t)
-  owes CallKind.run i m σ a t = run-owes i m σ a (tells-is (memoryAnswer (i .file .bytes) m) (runFrom (i .file .bytes) m (i .number)) t)
+  owes CallKind.run i m σ a t = run-owes i m σ a (describes-is (memoryAnswer (i .file .bytes) m) (runFrom (i .file .bytes) m (i .number)) t)
   owes CallKind.memory i m σ a t = (σ, refl, a)
-  owes CallKind.look i m σ a t = look-owes i m σ a (tells-is (lookVerdict (i .file .bytes) m (i .number)) (valueOr (lookUp (stateOf m) (i .number))) t)
+  owes CallKind.look i m σ a t = look-owes i m σ a (describes-is (lookVerdict (i .file .bytes) m (i .number)) (valueOr (lookUp (stateOf m) (i .number))) t)
 
   -- what each form owes in a list begun from M
   abbrev pub owing : (k : CallKind) → Owes (List ℕ) Given (List ℕ) (λ e. e .bytes) programOf (Image M) (form k)

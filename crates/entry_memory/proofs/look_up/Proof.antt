@@ -2,7 +2,7 @@ use Rattle.check_file.specs.Answers.{says}
 use mathlib.Core.Path.{sym, ap, _∙_}
 use borrow.Author.Tests.{not-true, not-false}
 use Rattle.entry_memory.specs.Looks.{lookOf}
-use Rattle.entry_memory.proofs.Questions.{room-held, state-held, look-early, look-none, look-told}
+use Rattle.entry_memory.proofs.Questions.{room-held, state-held, look-early, look-none, look-granted}
 use borrow.Author.Needs.{needs}
 use Rattle.entry_memory.proofs.look_up.Statement.{statement}
 use Rattle.entry_memory.proofs.look_up.Tie as tie
@@ -37,7 +37,7 @@ look-of-requires c κs = search needs
 
 returns-3 : tie.Need-returns-3
 unfolding says
-returns-3 c = (c .look-of .ensures .0 ∙ rw (c .before .value-in .ensures, look-told _ _ _ (sym (c .before .before .before .before .before .before .check-memory .ensures .0) ∙ ap says (c .before .before .before .before .enum-told .given .1)) (sym (c .before .before .before .has-variable .ensures) ∙ not-false _ (c .before .before .if1 .left))), c .look-of .ensures .1)
+returns-3 c = (c .look-of .ensures .0 ∙ rw (c .before .value-in .ensures, look-granted _ _ _ (sym (c .before .before .before .before .before .before .check-memory .ensures .0) ∙ ap says (c .before .before .before .before .enum-told .given .1)) (sym (c .before .before .before .has-variable .ensures) ∙ not-false _ (c .before .before .if1 .left))), c .look-of .ensures .1)
 
 pub look-up-spec : {M : Type 1} → statement M
 look-up-spec =

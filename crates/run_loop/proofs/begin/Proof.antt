@@ -4,7 +4,7 @@ use mathlib.Core.List.{[]}
 use native.Mathlib.Omega.{arith}
 use Rattle.records.proofs.StartTables.{part-laid}
 use Rattle.run_step.proofs.Leaves.{pos}
-use Rattle.run_loop.proofs.Starting.{cleared, two-set, main-spent, file-laid, main-known, begun-fit, begun-tells, begun-stands, begun-ends}
+use Rattle.run_loop.proofs.Starting.{cleared, two-set, main-spent, file-laid, main-known, begun-fit, begun-describes, begun-at-fit, begun-ends}
 use borrow.Author.Needs.{needs}
 use Rattle.run_loop.proofs.begin.Statement.{statement}
 use Rattle.run_loop.proofs.begin.Tie as tie
@@ -47,7 +47,7 @@ go-requires c κs =
     let i = c .before .before .before .before .before .before .before .before .before .before .starts-of .ensures .1 0 k in
     let d = c .before .before .before .before .before .before .before .before .before .count-of .ensures .0 in
     let w = c .before .before .before .before .before .before .wide .ensures .0 ∙ c .before .before .before .before .before .before .before .vars-of .ensures in (
-      begun-stands (b .args .file .now) (p .passed) _ (c .before .before .body-of .ensures 0 i d) _ w (λ j. c .before .before .before .before .before .before .before .before .before .before .before .before .before .shared-slice-known .given j .fits) (c .before .before .before .before .before .before .before .before .before .before .starts-of .result) _ _ _ (p .rest)
+      begun-at-fit (b .args .file .now) (p .passed) _ (c .before .before .body-of .ensures 0 i d) _ w (λ j. c .before .before .before .before .before .before .before .before .before .before .before .before .before .shared-slice-known .given j .fits) (c .before .before .before .before .before .before .before .before .before .before .starts-of .result) _ _ _ (p .rest)
           (c .before .before .before .before .before .before .before .before .before .before .starts-of .ensures) i d
           (c .before .before .before .before .before .enter-main .ensures 16384 (p .rest) (cleared _ _ (p .rest) tt (p .held) 16384 refl) refl (omega (arith, w, file-laid (b .args .file .now) (p .passed) .vars 0 k))),
       omega (arith, c .before .before .before .before .before .enter-main .kept .0, two-set (b .args .m .now), b .pre .1),
@@ -69,7 +69,7 @@ returns-2 c R e =
     begun-ends (b .args .file .now) (p .passed) _ g _ w _ _ _ _ R (pos (c .before .before .before .before .before .before .before .before .before .before .before .before .before .before .if1 .left))
     (c .before .before .go .ensures 0 _ [] [] R
     (c .before .before .before .before .before .before .before .before .enter-main .ensures 16384 R (cleared _ _ R tt e 16384 refl) refl (omega (arith, w, file-laid (b .args .file .now) (p .passed) .vars 0 k)))
-    (begun-tells (b .args .file .now) (p .passed) _ g _ w _ _ i d) (begun-fit (b .args .file .now) (p .passed) _ g _ w (λ j. c .before .before .before .before .before .before .before .before .before .before .before .before .before .before .before .before .shared-slice-known .given j .fits)))
+    (begun-describes (b .args .file .now) (p .passed) _ g _ w _ _ i d) (begun-fit (b .args .file .now) (p .passed) _ g _ w (λ j. c .before .before .before .before .before .before .before .before .before .before .before .before .before .before .before .before .shared-slice-known .given j .fits)))
 
 pub begin-spec : {M : Type 1} → statement M
 begin-spec =

@@ -12,7 +12,7 @@ use Rattle.spec_machine.specs.File.{programOf}
 use Rattle.spec_image.specs.Core.{core}
 use Rattle.state_words.specs.Meaning.{controlIs}
 use Rattle.run_rules.specs.StepsTo.{Describes}
-use Rattle.run_loop.proofs.Reaching.{Reached, reached, reached-stands, reached-on, reached-full, reached-returned, reached-arith, reached-abort, reached-bounds}
+use Rattle.run_loop.proofs.Reaching.{Reached, reached, reached-at-fit, reached-on, reached-full, reached-returned, reached-arith, reached-abort, reached-bounds}
 use Rattle.run_loop.proofs.go.Statement.{statement}
 use Rattle.run_loop.proofs.go.Tie as tie
 
@@ -33,8 +33,8 @@ step-requires c κs =
     let b = c .before .before .before .before .before in
     let l = c .before .before .loop in
     let z = b .pre .0 in
-    let r = l .inv .2 (b .args .head .function) (z .variables) (z .frames) (z .callers) (z .rest) (z .held) (z .tells) (z .fit) in
-    let q = reached-stands _ (b .args .starts .now) _ _ _ _ _ _ _ _ (z .passed) (z .starts) r in
+    let r = l .inv .2 (b .args .head .function) (z .variables) (z .frames) (z .callers) (z .rest) (z .held) (z .describes) (z .fit) in
+    let q = reached-at-fit _ (b .args .starts .now) _ _ _ _ _ _ _ _ (z .passed) (z .starts) r in
     (q, omega (arith, l .inv .1, b .pre .1))
 
 enum-known-next : tie.Need-enum-known-next Inv-loop μ-loop
@@ -55,7 +55,7 @@ loop-again c = (
       let l = c .before .before .before .before .before .before .before .before .loop in
       let z = b .pre .0 in
       let r = l .inv .2 f η K A R e t fit in
-      let d = c .before .before .before .before .before .step .ensures (r .function) (r .variables) (r .frames) (r .callers) R (r .held) (r .tells) (r .fit) in
+      let d = c .before .before .before .before .before .step .ensures (r .function) (r .variables) (r .frames) (r .callers) R (r .held) (r .describes) (r .fit) in
       reached-on _ (λ i. c .before .before .before .before .before .before .before .before .before .before .shared-slice-known .given i .fits) (z .passed) _ _ _ _ _ _ _ _ R (c .before .before .before .before .before .before .before .loop-test .taken) r _ _ (rw (c .before .next .given .1) at d),
 )
 
@@ -67,7 +67,7 @@ stop-requires c κs =
     let b = c .before .before .before .before .before .before .before .before .before .before .before in
     let l = c .before .before .before .before .before .before .before .before .loop in
     let z = b .pre .0 in
-    let r = l .inv .2 (b .args .head .function) (z .variables) (z .frames) (z .callers) (z .rest) (z .held) (z .tells) (z .fit) in
+    let r = l .inv .2 (b .args .head .function) (z .variables) (z .frames) (z .callers) (z .rest) (z .held) (z .describes) (z .fit) in
     let w = reached-bounds _ _ _ _ _ _ _ _ _ r (omega (arith, l .inv .1, b .pre .1)) in
     (omega (arith, c .before .before .before .before .before .step .kept .1 .1 .0, l .inv .1, b .pre .1), w .1, w .2)
 
@@ -80,9 +80,9 @@ returns c f η K A R e t fit =
     let l = c .before .before .before .before .before .before .before .before .before .before .before .loop in
     let z = b .pre .0 in
     let r = l .inv .2 f η K A R e t fit in
-    let d = c .before .before .before .before .before .before .before .before .step .ensures (r .function) (r .variables) (r .frames) (r .callers) R (r .held) (r .tells) (r .fit) in
+    let d = c .before .before .before .before .before .before .before .before .step .ensures (r .function) (r .variables) (r .frames) (r .callers) R (r .held) (r .describes) (r .fit) in
     let o = c .before .before .stop .ensures in
-    rw (o .0, o .1) (reached-full _ (λ i. c .before .before .before .before .before .before .before .before .before .before .before .before .before .shared-slice-known .given i .fits) (z .passed) _ _ _ _ _ _ _ _ R (c .before .before .before .before .before .before .before .before .before .before .loop-test .taken) r (rw (c .before .before .before .before .enum-told .given .1) at d) _ (λ i. o .2 (b .args .file .now) (r .function) (r .variables) (r .frames) (r .callers) R (i ∙ r .held) (r .tells)))
+    rw (o .0, o .1) (reached-full _ (λ i. c .before .before .before .before .before .before .before .before .before .before .before .before .before .shared-slice-known .given i .fits) (z .passed) _ _ _ _ _ _ _ _ R (c .before .before .before .before .before .before .before .before .before .before .loop-test .taken) r (rw (c .before .before .before .before .enum-told .given .1) at d) _ (λ i. o .2 (b .args .file .now) (r .function) (r .variables) (r .frames) (r .callers) R (i ∙ r .held) (r .describes)))
 
 enum-known-word : tie.Need-enum-known-word Inv-loop μ-loop
 enum-known-word c = search needs
@@ -102,7 +102,7 @@ returns-2 c f η K A R e t fit =
     let l = c .before .before .before .before .before .before .before .before .before .before .before .before .loop in
     let z = b .pre .0 in
     let r = l .inv .2 f η K A R e t fit in
-    let d = c .before .before .before .before .before .before .before .before .before .step .ensures (r .function) (r .variables) (r .frames) (r .callers) R (r .held) (r .tells) (r .fit) in
+    let d = c .before .before .before .before .before .before .before .before .before .step .ensures (r .function) (r .variables) (r .frames) (r .callers) R (r .held) (r .describes) (r .fit) in
     reached-returned _ (λ i. c .before .before .before .before .before .before .before .before .before .before .before .before .before .before .shared-slice-known .given i .fits) (z .passed) _ _ _ _ _ _ _ _ R (c .before .before .before .before .before .before .before .before .before .before .before .loop-test .taken) r _ (rw (c .before .before .before .before .before .word .given .1) at d) _ _ _ (λ i. c .before .before .finish .ensures _ R i)
 
 enum-told-2 : tie.Need-enum-told-2 Inv-loop μ-loop
@@ -123,7 +123,7 @@ returns-3 c f η K A R e t fit =
     let l = c .before .before .before .before .before .before .before .before .before .before .before .loop in
     let z = b .pre .0 in
     let r = l .inv .2 f η K A R e t fit in
-    let d = c .before .before .before .before .before .before .before .before .step .ensures (r .function) (r .variables) (r .frames) (r .callers) R (r .held) (r .tells) (r .fit) in
+    let d = c .before .before .before .before .before .before .before .before .step .ensures (r .function) (r .variables) (r .frames) (r .callers) R (r .held) (r .describes) (r .fit) in
     let o = c .before .before .fail .ensures in
     rw (o .0, o .1) (reached-arith _ (λ i. c .before .before .before .before .before .before .before .before .before .before .before .before .before .shared-slice-known .given i .fits) (z .passed) _ _ _ _ _ _ _ _ R (c .before .before .before .before .before .before .before .before .before .before .loop-test .taken) r (rw (c .before .before .before .before .enum-told2 .given .1) at d) _ (λ i. o .2 _ R i arith-rests))
 
@@ -145,7 +145,7 @@ returns-4 c f η K A R e t fit =
     let l = c .before .before .before .before .before .before .before .before .before .before .before .loop in
     let z = b .pre .0 in
     let r = l .inv .2 f η K A R e t fit in
-    let d = c .before .before .before .before .before .before .before .before .step .ensures (r .function) (r .variables) (r .frames) (r .callers) R (r .held) (r .tells) (r .fit) in
+    let d = c .before .before .before .before .before .before .before .before .step .ensures (r .function) (r .variables) (r .frames) (r .callers) R (r .held) (r .describes) (r .fit) in
     let o = c .before .before .fail2 .ensures in
     rw (o .0, o .1) (reached-abort _ (λ i. c .before .before .before .before .before .before .before .before .before .before .before .before .before .shared-slice-known .given i .fits) (z .passed) _ _ _ _ _ _ _ _ R (c .before .before .before .before .before .before .before .before .before .before .loop-test .taken) r (rw (c .before .before .before .before .enum-told3 .given .1) at d) _ (λ i. o .2 _ R i abort-rests))
 
@@ -154,7 +154,7 @@ stop-requires-2 c κs =
     let b = c .before .before .before .before .before in
     let l = c .before .before .loop in
     let z = b .pre .0 in
-    let r = l .inv .2 (b .args .head .function) (z .variables) (z .frames) (z .callers) (z .rest) (z .held) (z .tells) (z .fit) in
+    let r = l .inv .2 (b .args .head .function) (z .variables) (z .frames) (z .callers) (z .rest) (z .held) (z .describes) (z .fit) in
     reached-bounds _ _ _ _ _ _ _ _ _ r (omega (arith, l .inv .1, b .pre .1))
 
 same-length-5 : tie.Need-same-length-5 Inv-loop μ-loop
@@ -167,7 +167,7 @@ returns-5 c f η K A R e t fit =
     let r = l .inv .2 f η K A R e t fit in
     let o = c .before .before .stop2 .ensures in
     rw (o .0, o .1) (r .then _ _ _ (ends-spent (programOf (b .args .file .now)) (b .args .allowed) _ _ _ _ _ _ _ R (c .before .before .before .before .loop-test .left)
-    (o .2 (b .args .file .now) (r .function) (r .variables) (r .frames) (r .callers) R (r .held) (r .tells))))
+    (o .2 (b .args .file .now) (r .function) (r .variables) (r .frames) (r .callers) R (r .held) (r .describes))))
 
 pub go-spec : {M : Type 1} → statement M
 go-spec =

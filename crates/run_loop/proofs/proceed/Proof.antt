@@ -4,7 +4,7 @@ use native.Mathlib.Omega.{arith}
 use Rattle.state_words.specs.Meaning.{activationAt}
 use Rattle.records.proofs.StartTables.{start-at}
 use Rattle.run_loop.proofs.Starting.{file-laid}
-use Rattle.run_loop.proofs.Resuming.{resumed-count, resumed-few, resumed-known, resumed-control, resumed-callers, resumed-function, resumed-frames, resumed-total, resumed-tells, resumed-stands, resumed-run}
+use Rattle.run_loop.proofs.Resuming.{resumed-count, resumed-few, resumed-known, resumed-control, resumed-callers, resumed-function, resumed-frames, resumed-total, resumed-describes, resumed-at-fit, resumed-run}
 use borrow.Author.Needs.{needs}
 use Rattle.run_loop.proofs.proceed.Statement.{statement}
 use Rattle.run_loop.proofs.proceed.Tie as tie
@@ -73,8 +73,8 @@ go-requires c κs =
     let g = c .before .before .before .before .before .before .before .before .before .before .before .activation-word .ensures ∙ resumed-function (b .args .file .now) (p .passed) (b .args .m .now) (p .control) (p .function) (p .variables) (p .frames) (p .callers) (p .rest) (p .held) (p .fit) _ refl _ refl in
     let x = c .before .before .before .before .before .before .before .before .before .activation-word2 .ensures ∙ resumed-frames (b .args .file .now) (p .passed) (b .args .m .now) (p .control) (p .function) (p .variables) (p .frames) (p .callers) (p .rest) (p .held) (p .fit) _ refl _ refl in
     let a = resumed-callers (b .args .file .now) (p .passed) (b .args .m .now) (p .control) (p .function) (p .variables) (p .frames) (p .callers) (p .rest) (p .held) (p .fit) _ refl in
-    let t = resumed-tells (b .args .file .now) (p .passed) (b .args .m .now) (p .control) (p .function) (p .variables) (p .frames) (p .callers) (p .rest) (p .held) (p .fit) _ refl _ _ _ _ _ g (start-at _ (c .before .before .before .before .before .before .before .before .before .before .before .before .before .before .before .before .before .starts-of .result) _ _ (c .before .before .before .before .before .before .before .before .before .before .before .before .before .before .before .before .before .starts-of .ensures) (resumed-known (b .args .file .now) (p .passed) (b .args .m .now) (p .control) (p .function) (p .variables) (p .frames) (p .callers) (p .rest) (p .held) (p .fit)) g) (c .before .before .before .before .before .before .count-of .ensures .0 ∙ rw g) x (ap (λ (w : ℕ). w - c .before .before .before .before .before .before .before .before .before .activation-word2 .result) (c .before .before .before .before .before .before .before .frames-held .ensures)) in (
-      resumed-stands (b .args .file .now) (p .passed) (b .args .m .now) (p .control) (p .function) (p .variables) (p .frames) (p .callers) (p .rest) (p .held) (p .fit) _ refl (c .before .before .before .before .before .before .before .before .before .before .before .before .before .before .before .before .before .starts-of .result) _ _ _ (c .before .before .before .before .before .before .before .before .before .before .before .before .before .before .before .before .before .starts-of .ensures) t (c .before .before .before .before .before .before .before .before .before .before .before .before .before .control-of .ensures ∙ resumed-control (b .args .file .now) (p .passed) (b .args .m .now) (p .control) (p .function) (p .variables) (p .frames) (p .callers) (p .rest) (p .held) (p .fit))
+    let t = resumed-describes (b .args .file .now) (p .passed) (b .args .m .now) (p .control) (p .function) (p .variables) (p .frames) (p .callers) (p .rest) (p .held) (p .fit) _ refl _ _ _ _ _ g (start-at _ (c .before .before .before .before .before .before .before .before .before .before .before .before .before .before .before .before .before .starts-of .result) _ _ (c .before .before .before .before .before .before .before .before .before .before .before .before .before .before .before .before .before .starts-of .ensures) (resumed-known (b .args .file .now) (p .passed) (b .args .m .now) (p .control) (p .function) (p .variables) (p .frames) (p .callers) (p .rest) (p .held) (p .fit)) g) (c .before .before .before .before .before .before .count-of .ensures .0 ∙ rw g) x (ap (λ (w : ℕ). w - c .before .before .before .before .before .before .before .before .before .activation-word2 .result) (c .before .before .before .before .before .before .before .frames-held .ensures)) in (
+      resumed-at-fit (b .args .file .now) (p .passed) (b .args .m .now) (p .control) (p .function) (p .variables) (p .frames) (p .callers) (p .rest) (p .held) (p .fit) _ refl (c .before .before .before .before .before .before .before .before .before .before .before .before .before .before .before .before .before .starts-of .result) _ _ _ (c .before .before .before .before .before .before .before .before .before .before .before .before .before .before .before .before .before .starts-of .ensures) t (c .before .before .before .before .before .before .before .before .before .before .before .before .before .control-of .ensures ∙ resumed-control (b .args .file .now) (p .passed) (b .args .m .now) (p .control) (p .function) (p .variables) (p .frames) (p .callers) (p .rest) (p .held) (p .fit))
           (c .before .before .before .before .clear-head .ensures (p .control) _ (p .function) (p .variables) (p .frames) (p .callers) (p .rest) (p .held) a),
       omega (arith, c .before .before .before .before .clear-head .kept .0, b .pre .1),
       omega arith,
@@ -90,7 +90,7 @@ returns c k f η K A R e fit =
     let g = c .before .before .before .before .before .before .before .before .before .before .before .before .before .before .activation-word .ensures ∙ resumed-function (b .args .file .now) (p .passed) (b .args .m .now) k f η K A R e fit _ refl _ refl in
     let x = c .before .before .before .before .before .before .before .before .before .before .before .before .activation-word2 .ensures ∙ resumed-frames (b .args .file .now) (p .passed) (b .args .m .now) k f η K A R e fit _ refl _ refl in
     let a = resumed-callers (b .args .file .now) (p .passed) (b .args .m .now) k f η K A R e fit _ refl in
-    let t = resumed-tells (b .args .file .now) (p .passed) (b .args .m .now) k f η K A R e fit _ refl _ _ _ _ _ g (start-at _ (c .before .before .before .before .before .before .before .before .before .before .before .before .before .before .before .before .before .before .before .before .starts-of .result) _ _ (c .before .before .before .before .before .before .before .before .before .before .before .before .before .before .before .before .before .before .before .before .starts-of .ensures) (resumed-known (b .args .file .now) (p .passed) (b .args .m .now) k f η K A R e fit) g) (c .before .before .before .before .before .before .before .before .before .count-of .ensures .0 ∙ rw g) x (ap (λ (w : ℕ). w - c .before .before .before .before .before .before .before .before .before .before .before .before .activation-word2 .result) (c .before .before .before .before .before .before .before .before .before .before .frames-held .ensures)) in
+    let t = resumed-describes (b .args .file .now) (p .passed) (b .args .m .now) k f η K A R e fit _ refl _ _ _ _ _ g (start-at _ (c .before .before .before .before .before .before .before .before .before .before .before .before .before .before .before .before .before .before .before .before .starts-of .result) _ _ (c .before .before .before .before .before .before .before .before .before .before .before .before .before .before .before .before .before .before .before .before .starts-of .ensures) (resumed-known (b .args .file .now) (p .passed) (b .args .m .now) k f η K A R e fit) g) (c .before .before .before .before .before .before .before .before .before .count-of .ensures .0 ∙ rw g) x (ap (λ (w : ℕ). w - c .before .before .before .before .before .before .before .before .before .before .before .before .activation-word2 .result) (c .before .before .before .before .before .before .before .before .before .before .frames-held .ensures)) in
     resumed-run _ _ _ _ k f η K A _ _ R (c .before .before .before .before .before .before .before .before .before .before .before .before .before .before .before .before .control-of .ensures ∙ resumed-control (b .args .file .now) (p .passed) (b .args .m .now) k f η K A R e fit) fit
     (λ q. c .before .before .go .ensures f η K A R (c .before .before .before .before .before .before .before .clear-head .ensures k _ f η K A R e a) t q)
 

@@ -9,7 +9,7 @@ use Rattle.state_words.specs.Meaning.{valueIs, controlIs}
 use Rattle.run_rules.proofs.Steps.{counted-under}
 use Rattle.run_step.proofs.Views.{is-operator, is-call, is-and, is-wait, is-store, is-branch, is-leave, is-assert, is-discard}
 use Rattle.run_step.proofs.GiveNeeds.{over, limited, framed, bounded, few, under, operate-ready, operand-ready, enter-ready, and-ready, store-ready, leave-main-ready, leave-ready, branch-ready, part-inside}
-use Rattle.run_step.proofs.GiveResult.{gave-operator, gave-next, gave-call, gave-and, gave-store, gave-branch, gave-leave, gave-assert, gave-discard}
+use Rattle.run_step.proofs.GiveResult.{give-operator, give-next, give-call, give-and, give-store, give-branch, give-leave, give-assert, give-discard}
 use borrow.Author.Needs.{needs}
 use Rattle.run_step.proofs.give.Statement.{statement}
 use Rattle.run_step.proofs.give.Tie as tie
@@ -54,7 +54,7 @@ returns c f η fr K A R e t fit =
     let x = over (b .args .file .now) (b .args .starts .now) (valueIs (b .args .v)) (b .args .h) (b .args .m .now) (b .pre .0) in
     let p = x .passed in
     let w = c .before .before .before .before .before .before .before .before .top-frame .ensures f η fr K A R e (omega (arith, limited t fit .0, t .callers)) (counted-under t (b .args .h .frames - 1) (omega (arith, t .frames))) in
-    gave-operator _ _ _ _ _ R f η fr K A _ p e t fit _ _ _ (is-operator _ _ w _ _ _ (c .before .before .before .before .before .before .top .given .1)) (c .before .before .before .before .if1 .taken) (λ i j k l n. c .before .before .operate .ensures f η i j K A R k l n)
+    give-operator _ _ _ _ _ R f η fr K A _ p e t fit _ _ _ (is-operator _ _ w _ _ _ (c .before .before .before .before .before .before .top .given .1)) (c .before .before .before .before .if1 .taken) (λ i j k l n. c .before .before .operate .ensures f η i j K A R k l n)
 
 next-operand-requires : tie.Need-next-operand-requires
 unfolding programOf
@@ -89,7 +89,7 @@ returns-2 c f η fr K A R e t fit =
     let x = over (b .args .file .now) (b .args .starts .now) (valueIs (b .args .v)) (b .args .h) (b .args .m .now) (b .pre .0) in
     let p = x .passed in
     let w = c .before .before .before .before .before .before .before .before .top-frame .ensures f η fr K A R e (omega (arith, limited t fit .0, t .callers)) (counted-under t (b .args .h .frames - 1) (omega (arith, t .frames))) in
-    gave-call _ _ _ _ _ R f η fr K A _ p e t fit _ _ _ (is-call _ _ w _ _ _ (c .before .before .before .before .before .before .top2 .given .1)) (c .before .before .before .before .if2 .taken) (λ vs k l n q r. c .before .before .enter .ensures f η _ vs K A R k l n q r)
+    give-call _ _ _ _ _ R f η fr K A _ p e t fit _ _ _ (is-call _ _ w _ _ _ (c .before .before .before .before .before .before .top2 .given .1)) (c .before .before .before .before .if2 .taken) (λ vs k l n q r. c .before .before .enter .ensures f η _ vs K A R k l n q r)
 
 next-operand-requires-2 : tie.Need-next-operand-requires-2
 unfolding programOf
@@ -190,7 +190,7 @@ returns-3 c f η fr K A R e t fit =
     let x = over (b .args .file .now) (b .args .starts .now) (valueIs (b .args .v)) (b .args .h) (b .args .m .now) (b .pre .0) in
     let p = x .passed in
     let w = c .before .before .before .before .before .before .before .before .top-frame .ensures f η fr K A R e (omega (arith, limited t fit .0, t .callers)) (counted-under t (b .args .h .frames - 1) (omega (arith, t .frames))) in
-    gave-next _ _ _ _ _ R f η fr K A _ p e t fit _ _ _ _ (b .pre .1 ∙ ap (partOf (b .args .file .now)) (t .function)) (is-operator _ _ w _ _ _ (c .before .before .before .before .before .before .top .given .1)) (c .before .before .before .before .if1 .left) (λ vs d ns k l n q r. c .before .before .next-operand .ensures _ f η _ vs d ns K A R k l n q r)
+    give-next _ _ _ _ _ R f η fr K A _ p e t fit _ _ _ _ (b .pre .1 ∙ ap (partOf (b .args .file .now)) (t .function)) (is-operator _ _ w _ _ _ (c .before .before .before .before .before .before .top .given .1)) (c .before .before .before .before .if1 .left) (λ vs d ns k l n q r. c .before .before .next-operand .ensures _ f η _ vs d ns K A R k l n q r)
 
 same-length-4 : tie.Need-same-length-4
 same-length-4 c = search needs
@@ -202,7 +202,7 @@ returns-4 c f η fr K A R e t fit =
     let x = over (b .args .file .now) (b .args .starts .now) (valueIs (b .args .v)) (b .args .h) (b .args .m .now) (b .pre .0) in
     let p = x .passed in
     let w = c .before .before .before .before .before .before .before .before .top-frame .ensures f η fr K A R e (omega (arith, limited t fit .0, t .callers)) (counted-under t (b .args .h .frames - 1) (omega (arith, t .frames))) in
-    gave-next _ _ _ _ _ R f η fr K A _ p e t fit _ _ _ _ (b .pre .1 ∙ ap (partOf (b .args .file .now)) (t .function)) (is-call _ _ w _ _ _ (c .before .before .before .before .before .before .top2 .given .1)) (c .before .before .before .before .if2 .left) (λ vs d ns k l n q r. c .before .before .next-operand2 .ensures _ f η _ vs d ns K A R k l n q r)
+    give-next _ _ _ _ _ R f η fr K A _ p e t fit _ _ _ _ (b .pre .1 ∙ ap (partOf (b .args .file .now)) (t .function)) (is-call _ _ w _ _ _ (c .before .before .before .before .before .before .top2 .given .1)) (c .before .before .before .before .if2 .left) (λ vs d ns k l n q r. c .before .before .next-operand2 .ensures _ f η _ vs d ns K A R k l n q r)
 
 same-length-5 : tie.Need-same-length-5
 same-length-5 c = search needs
@@ -214,7 +214,7 @@ returns-5 c f η fr K A R e t fit =
     let x = over (b .args .file .now) (b .args .starts .now) (valueIs (b .args .v)) (b .args .h) (b .args .m .now) (b .pre .0) in
     let p = x .passed in
     let w = c .before .before .before .before .before .before .before .before .top-frame .ensures f η fr K A R e (omega (arith, limited t fit .0, t .callers)) (counted-under t (b .args .h .frames - 1) (omega (arith, t .frames))) in
-    gave-and _ _ _ _ _ R f η fr K A _ p e t fit _ _ (b .pre .1 ∙ ap (partOf (b .args .file .now)) (t .function)) (is-and _ _ w _ (c .before .before .before .before .before .before .top3 .given .1)) (rw (← (c .before .before .before .before .reach .ensures)) (c .before .before .choose .ensures _ Rule.and-true Rule.and-false f η fr K A R e t))
+    give-and _ _ _ _ _ R f η fr K A _ p e t fit _ _ (b .pre .1 ∙ ap (partOf (b .args .file .now)) (t .function)) (is-and _ _ w _ (c .before .before .before .before .before .before .top3 .given .1)) (rw (← (c .before .before .before .before .reach .ensures)) (c .before .before .choose .ensures _ Rule.and-true Rule.and-false f η fr K A R e t))
 
 same-length-6 : tie.Need-same-length-6
 same-length-6 c = search needs
@@ -232,7 +232,7 @@ returns-7 c f η fr K A R e t fit =
     let x = over (b .args .file .now) (b .args .starts .now) (valueIs (b .args .v)) (b .args .h) (b .args .m .now) (b .pre .0) in
     let p = x .passed in
     let w = c .before .before .before .before .before .before .before .top-frame .ensures f η fr K A R e (omega (arith, limited t fit .0, t .callers)) (counted-under t (b .args .h .frames - 1) (omega (arith, t .frames))) in
-    gave-store _ _ _ _ _ R f η fr K A _ p e t fit _ (is-store _ _ w _ (c .before .before .before .before .before .top5 .given .1)) (λ i j. c .before .before .assign .ensures _ f η fr K A R e t i j)
+    give-store _ _ _ _ _ R f η fr K A _ p e t fit _ (is-store _ _ w _ (c .before .before .before .before .before .top5 .given .1)) (λ i j. c .before .before .assign .ensures _ f η fr K A R e t i j)
 
 same-length-8 : tie.Need-same-length-8
 same-length-8 c = search needs
@@ -244,7 +244,7 @@ returns-8 c f η fr K A R e t fit =
     let x = over (b .args .file .now) (b .args .starts .now) (valueIs (b .args .v)) (b .args .h) (b .args .m .now) (b .pre .0) in
     let p = x .passed in
     let w = c .before .before .before .before .before .before .before .top-frame .ensures f η fr K A R e (omega (arith, limited t fit .0, t .callers)) (counted-under t (b .args .h .frames - 1) (omega (arith, t .frames))) in
-    gave-branch _ _ _ _ _ R f η fr K A _ p e t fit _ _ (is-branch _ _ w _ _ (c .before .before .before .before .before .top6 .given .1)) (c .before .before .choose2 .ensures _ Rule.if-true Rule.if-false f η fr K A R e t)
+    give-branch _ _ _ _ _ R f η fr K A _ p e t fit _ _ (is-branch _ _ w _ _ (c .before .before .before .before .before .top6 .given .1)) (c .before .before .choose2 .ensures _ Rule.if-true Rule.if-false f η fr K A R e t)
 
 same-length-9 : tie.Need-same-length-9
 same-length-9 c = search needs
@@ -256,7 +256,7 @@ returns-9 c f η fr K A R e t fit =
     let x = over (b .args .file .now) (b .args .starts .now) (valueIs (b .args .v)) (b .args .h) (b .args .m .now) (b .pre .0) in
     let p = x .passed in
     let w = c .before .before .before .before .before .before .top-frame .ensures f η fr K A R e (omega (arith, limited t fit .0, t .callers)) (counted-under t (b .args .h .frames - 1) (omega (arith, t .frames))) in
-    gave-leave _ _ _ _ _ R f η fr K A _ p e t fit (is-leave _ _ w (c .before .before .before .before .enum-told .given .1)) (c .before .before .depart .ensures f η _ A R e t)
+    give-leave _ _ _ _ _ R f η fr K A _ p e t fit (is-leave _ _ w (c .before .before .before .before .enum-told .given .1)) (c .before .before .depart .ensures f η _ A R e t)
 
 same-length-10 : tie.Need-same-length-10
 same-length-10 c = search needs
@@ -268,7 +268,7 @@ returns-10 c f η fr K A R e t fit =
     let x = over (b .args .file .now) (b .args .starts .now) (valueIs (b .args .v)) (b .args .h) (b .args .m .now) (b .pre .0) in
     let p = x .passed in
     let w = c .before .before .before .before .before .before .top-frame .ensures f η fr K A R e (omega (arith, limited t fit .0, t .callers)) (counted-under t (b .args .h .frames - 1) (omega (arith, t .frames))) in
-    gave-assert _ _ _ _ _ R f η fr K A _ p e t fit (is-assert _ _ w (c .before .before .before .before .enum-told2 .given .1)) (c .before .before .affirm .ensures _ Rule.assert-true Rule.assert-false f η fr K A R e t)
+    give-assert _ _ _ _ _ R f η fr K A _ p e t fit (is-assert _ _ w (c .before .before .before .before .enum-told2 .given .1)) (c .before .before .affirm .ensures _ Rule.assert-true Rule.assert-false f η fr K A R e t)
 
 same-length-11 : tie.Need-same-length-11
 same-length-11 c = search needs
@@ -280,7 +280,7 @@ returns-11 c f η fr K A R e t fit =
     let x = over (b .args .file .now) (b .args .starts .now) (valueIs (b .args .v)) (b .args .h) (b .args .m .now) (b .pre .0) in
     let p = x .passed in
     let w = c .before .before .before .before .before .before .top-frame .ensures f η fr K A R e (omega (arith, limited t fit .0, t .callers)) (counted-under t (b .args .h .frames - 1) (omega (arith, t .frames))) in
-    gave-discard _ _ _ _ _ R f η fr K A _ p e t fit (is-discard _ _ w (c .before .before .before .before .enum-told3 .given .1)) (c .before .before .take-off .ensures _ f η fr K A R e t)
+    give-discard _ _ _ _ _ R f η fr K A _ p e t fit (is-discard _ _ w (c .before .before .before .before .enum-told3 .given .1)) (c .before .before .take-off .ensures _ f η fr K A R e t)
 
 pub give-spec : {M : Type 1} → statement M
 give-spec =

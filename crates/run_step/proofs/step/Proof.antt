@@ -3,7 +3,7 @@ use mathlib.Core.Logic.{⊎-elim}
 use native.Mathlib.Omega.{arith}
 use Prim.Native.Nat.{_-_}
 use Rattle.state_words.specs.Meaning.{controlIs}
-use Rattle.run_step.proofs.Standing.{laid, cut, bounds, evaluates, executes, waiting, nothing-hand, int-hand, truth-hand, stands-val, stands-eval, stands-exec, val-done, eval-done, exec-done}
+use Rattle.run_step.proofs.FitStates.{laid, cut, bounds, evaluates, executes, waiting, nothing-hand, int-hand, truth-hand, at-fit-val, at-fit-eval, at-fit-exec, val-done, eval-done, exec-done}
 use Rattle.run_step.proofs.step.Statement.{statement}
 use Rattle.run_step.proofs.step.Tie as tie
 
@@ -35,7 +35,7 @@ enum-known-c-3 : tie.Need-enum-known-c-3
 enum-known-c-3 c = search needs
 
 open-requires : tie.Need-open-requires
-open-requires c κs = let b = c .before .before .before .before .before .before .before .before in let e = evaluates (b .args .file .now) (b .args .starts .now) _ (b .args .h) (b .args .m .now) (cut (b .args .file .now) (b .args .starts .now) (controlIs (b .args .c)) (b .args .h) (b .args .m .now) (b .pre .0)) _ (stands-eval _ _ _ _ _ _ (c .before .before .c3 .given .1) (b .pre .0)) in ((bounds (b .args .file .now) (b .args .starts .now) (controlIs (b .args .c)) (b .args .h) (b .args .m .now) (b .pre .0) (b .pre .1)), b .pre .0 .starts, e .0, e .1, e .2)
+open-requires c κs = let b = c .before .before .before .before .before .before .before .before in let e = evaluates (b .args .file .now) (b .args .starts .now) _ (b .args .h) (b .args .m .now) (cut (b .args .file .now) (b .args .starts .now) (controlIs (b .args .c)) (b .args .h) (b .args .m .now) (b .pre .0)) _ (at-fit-eval _ _ _ _ _ _ (c .before .before .c3 .given .1) (b .pre .0)) in ((bounds (b .args .file .now) (b .args .starts .now) (controlIs (b .args .c)) (b .args .h) (b .args .m .now) (b .pre .0) (b .pre .1)), b .pre .0 .starts, e .0, e .1, e .2)
 
 same-length : tie.Need-same-length
 same-length c = search needs
@@ -47,7 +47,7 @@ enum-known-c-4 : tie.Need-enum-known-c-4
 enum-known-c-4 c = search needs
 
 execute-requires : tie.Need-execute-requires
-execute-requires c κs = let b = c .before .before .before .before .before .before .before .before in let e = stands-exec _ _ _ _ _ _ (c .before .before .c4 .given .1) (b .pre .0) in (((bounds (b .args .file .now) (b .args .starts .now) (controlIs (b .args .c)) (b .args .h) (b .args .m .now) (b .pre .0) (b .pre .1)), executes (b .args .file .now) (b .args .starts .now) _ (b .args .h) (b .args .m .now) (cut (b .args .file .now) (b .args .starts .now) (controlIs (b .args .c)) (b .args .h) (b .args .m .now) (b .pre .0)) _ e), waiting _ _ _ _ _ e)
+execute-requires c κs = let b = c .before .before .before .before .before .before .before .before in let e = at-fit-exec _ _ _ _ _ _ (c .before .before .c4 .given .1) (b .pre .0) in (((bounds (b .args .file .now) (b .args .starts .now) (controlIs (b .args .c)) (b .args .h) (b .args .m .now) (b .pre .0) (b .pre .1)), executes (b .args .file .now) (b .args .starts .now) _ (b .args .h) (b .args .m .now) (cut (b .args .file .now) (b .args .starts .now) (controlIs (b .args .c)) (b .args .h) (b .args .m .now) (b .pre .0)) _ e), waiting _ _ _ _ _ e)
 
 same-length-2 : tie.Need-same-length-2
 same-length-2 c = search needs
@@ -56,7 +56,7 @@ returns-2 : tie.Need-returns-2
 returns-2 c f η K A R e t fit = let b = c .before .before .before .before .before .before .before .before .before .before .before in exec-done _ _ _ _ _ R f η K A _ _ _ (c .before .before .before .before .before .c4 .given .1) t (cut (b .args .file .now) (b .args .starts .now) (controlIs (b .args .c)) (b .args .h) (b .args .m .now) (b .pre .0)) fit (λ i k. c .before .before .execute .ensures _ f η K A R e t (b .pre .0 .passed) i k)
 
 give-requires : tie.Need-give-requires
-give-requires c κs = let b = c .before .before .before .before .before .before in (stands-val _ _ _ _ _ _ (⊎-elim (λ x. nothing-hand _ _ (x .1 .given .1) (x .2)) (⊎-elim (λ x. int-hand _ _ _ (x .1 .given .1) (x .3)) (λ x. truth-hand _ _ _ (x .1 .given .1) (x .3))) (c .before .match .came)) (b .pre .0), (cut (b .args .file .now) (b .args .starts .now) (controlIs (b .args .c)) (b .args .h) (b .args .m .now) (b .pre .0)), b .pre .1)
+give-requires c κs = let b = c .before .before .before .before .before .before in (at-fit-val _ _ _ _ _ _ (⊎-elim (λ x. nothing-hand _ _ (x .1 .given .1) (x .2)) (⊎-elim (λ x. int-hand _ _ _ (x .1 .given .1) (x .3)) (λ x. truth-hand _ _ _ (x .1 .given .1) (x .3))) (c .before .match .came)) (b .pre .0), (cut (b .args .file .now) (b .args .starts .now) (controlIs (b .args .c)) (b .args .h) (b .args .m .now) (b .pre .0)), b .pre .1)
 
 same-length-3 : tie.Need-same-length-3
 same-length-3 c = search needs

@@ -6,7 +6,7 @@ use native.Mathlib.Omega.{arith}
 use Rattle.records.specs.Fields.{varsOf}
 use Rattle.state_words.specs.Meaning.{controlIs, valueIs}
 use Rattle.run_rules.proofs.Steps.{counted-under}
-use Rattle.run_rules.proofs.Entries.{entered-some, entered-tells, on-is, entered-full}
+use Rattle.run_rules.proofs.Entries.{entered-some, entered-describes, on-is, entered-full}
 use Rattle.records.proofs.StartTables.{part-laid}
 use borrow.Author.Needs.{needs}
 use Rattle.run_rules.proofs.calling.enter.Statement.{statement}
@@ -66,7 +66,7 @@ returns-2 c f η k vs K A R e t y p v =
     on-is _ _ _ _ _ R _ _ _ _ _ _ (ap machine.exec (c .before .before .body-of .ensures _ i d)) (entered-some _ _ _ (vs ++ (valueIs (b .args .v) ∷ [])) p)
     (c .before .before .before .before .before .enter .ensures f η k vs (varsOf (b .args .file .now) (b .args .g) - suc (b .args .y)) K A R e (t .callers) u (omega (arith, t .frames)) y
     (omega (arith, w, q .2 .0 .vars _ (q .3))) (omega (arith, w, v, y)))
-    (entered-tells _ f η K A _ _ _ _ _ i d (omega (arith, t .callers)) u) (omega (arith, c .before .before .before .before .before .before .before .before .before .before .before .before .before .if1 .left)) (omega (arith, q .0 .2))
+    (entered-describes _ f η K A _ _ _ _ _ i d (omega (arith, t .callers)) u) (omega (arith, c .before .before .before .before .before .before .before .before .before .before .before .before .before .if1 .left)) (omega (arith, q .0 .2))
 
 pub enter-spec : {M : Type 1} → statement M
 enter-spec =

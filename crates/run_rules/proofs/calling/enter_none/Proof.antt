@@ -5,7 +5,7 @@ use Rattle.spec_machine.specs.Values.{nothing}
 use Rattle.spec_machine.specs.Machine as machine
 use Rattle.state_words.specs.Meaning.{controlIs}
 use Rattle.run_rules.proofs.Steps.{counted}
-use Rattle.run_rules.proofs.Entries.{entered-none, entered-tells, on-is, entered-full}
+use Rattle.run_rules.proofs.Entries.{entered-none, entered-describes, on-is, entered-full}
 use Rattle.records.proofs.StartTables.{part-laid}
 use borrow.Author.Needs.{needs}
 use Rattle.run_rules.proofs.calling.enter_none.Statement.{statement}
@@ -57,7 +57,7 @@ returns-2 c f η K A R e t p =
     let i = q .1 .1 _ (q .2) in
     on-is _ _ _ _ _ R _ _ _ (replicate (c .before .before .before .before .before .before .wide .result) nothing) _ _ (ap machine.exec (c .before .before .body-of .ensures _ i d)) (rw w (entered-none _ _ p))
     (c .before .before .before .before .before .enter-none .ensures f η K A R e (t .callers) (t .frames) (omega (arith, w, q .1 .0 .vars _ (q .2))))
-    (entered-tells _ f η K A _ _ _ _ _ i d (omega (arith, t .callers)) (counted t)) (omega (arith, c .before .before .before .before .before .before .before .before .before .before .before .before .if1 .left)) (omega (arith, q .0 .2))
+    (entered-describes _ f η K A _ _ _ _ _ i d (omega (arith, t .callers)) (counted t)) (omega (arith, c .before .before .before .before .before .before .before .before .before .before .before .before .if1 .left)) (omega (arith, q .0 .2))
 
 pub enter-none-spec : {M : Type 1} → statement M
 enter-none-spec =

@@ -73,15 +73,15 @@ module _ (s table : List ℕ) (c : Control) (h : Registers) (l : List ℕ) (st :
   -- its part, cut out of the file
   pub laid : (h .start + 12 * h .count ≤ length s) × (h .count ≤ 4096)
   laid =
-      let t = st .tells in
+      let t = st .describes in
       let q = st .starts .0 in
       (omega (arith, t .start, t .count, q .fits (h .function) known), omega (arith, t .count, q .small (h .function) known))
 
   pub cut : take (h .start + 12 * h .count - h .start) (drop (h .start) s) ≡ partOf s (h .function)
-  cut = part-cut s (h .function) (st .tells .start) (st .tells .count)
+  cut = part-cut s (h .function) (st .describes .start) (st .describes .count)
 
   pub bounds : 16384 ≤ length l → Bounds h l
-  bounds n = let q = limited (st .tells) (st .fit) in (n, q .0, q .1)
+  bounds n = let q = limited (st .describes) (st .fit) in (n, q .0, q .1)
 
 module _ (s table t : List ℕ) (h : Registers) (l : List ℕ) (part : t ≡ partOf s (h .function)) where
   inside : (c : Control) (st : AtFitState s table c h l) (i : ℕ) → i < countOf s (h .function) → (12 * i + 12 ≤ length t) × (i < 4096)
@@ -139,7 +139,7 @@ module _ (s table t : List ℕ) (h : Registers) (l : List ℕ) (part : t ≡ par
 -- something waits where nop is executed
 pub waiting : (s table : List ℕ) (h : Registers) (l : List ℕ) (r : Ref) → AtFitState s table (exec r) h l → r ≡ Ref.nop → 1 ≤ h .frames
 unfolding programOf stmtAt returns
-waiting s table h l r st e = go (st .frames) (st .tells) (rw e at (st .fit))
+waiting s table h l r st e = go (st .frames) (st .describes) (rw e at (st .fit))
   where
     go : (K : List Frame) → Describes s h (h .function) K (st .callers) → Fit (programOf s) (running (exec Ref.nop) emptyEnv (h .function) (st .variables) K (st .callers)) → 1 ≤ h .frames
     go [] t f = absurd (false≢true (f .proper .returns))
@@ -161,16 +161,16 @@ module _ (c : code.Control) (v : code-value.Value) where
   truth-hand b e d = rw (e, d)
 
 module _ (s table : List ℕ) (c : code.Control) (h : Registers) (l : List ℕ) where
-  pub stands-val : (v : code-value.Value) → controlIs c ≡ val (valueIs v) → AtFitState s table (controlIs c) h l → AtFitState s table (val (valueIs v)) h l
-  stands-val v e st = rw e at st
+  pub at-fit-val : (v : code-value.Value) → controlIs c ≡ val (valueIs v) → AtFitState s table (controlIs c) h l → AtFitState s table (val (valueIs v)) h l
+  at-fit-val v e st = rw e at st
 
-  pub stands-eval : (i : ℕ) → c ≡ control.Eval i → AtFitState s table (controlIs c) h l → AtFitState s table (eval i) h l
+  pub at-fit-eval : (i : ℕ) → c ≡ control.Eval i → AtFitState s table (controlIs c) h l → AtFitState s table (eval i) h l
   unfolding controlIs
-  stands-eval i e st = rw e at st
+  at-fit-eval i e st = rw e at st
 
-  pub stands-exec : (r : ℕ) → c ≡ control.Exec r → AtFitState s table (controlIs c) h l → AtFitState s table (exec (refOf r)) h l
+  pub at-fit-exec : (r : ℕ) → c ≡ control.Exec r → AtFitState s table (controlIs c) h l → AtFitState s table (exec (refOf r)) h l
   unfolding controlIs
-  stands-exec r e st = rw e at st
+  at-fit-exec r e st = rw e at st
 
 module _ (s : List ℕ) (r : Stepped) (h : Registers) (l m R : List ℕ) (f : ℕ) (η : List Value) where
   pub val-done : (K : List Frame) (A : List Saved) (c : code.Control) (v : code-value.Value) → controlIs c ≡ val (valueIs v) → l ≡ core f η K A ++ R → Describes s h f K A
