@@ -5,6 +5,8 @@ use state_words::layout::CALLER_LIMIT;
 use state_words::layout::FRAME_LIMIT;
 use state_words::layout::FRAME_WORDS;
 use state_words::layout::FRAMES;
+use state_words::layout::HEAD_WORDS;
+use state_words::layout::IMAGE_WORDS;
 use state_words::layout::SLOT_ROOM;
 use state_words::layout::SLOTS;
 use state_words::layout::SPARE;
