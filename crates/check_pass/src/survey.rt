@@ -1,6 +1,7 @@
 // One pass over the nodes of a part before it is judged: questions 7 and 10, and the table of decls.
 use check_scopes::Declared;
 use records::Found;
+use records::format::KINDS;
 use records::format::NODE_MARK;
 use records::format::VARIABLE_ENTRIES;
 use records::mark_at;
@@ -32,14 +33,14 @@ fn is_nothing(found: Found) -> bool
 }
 
 // The number that field a of a node is below, by the kind of the node; 0 for calls and decls; by kind.
-fn a_limits() -> [u8; 16]
+fn a_limits() -> [u8; KINDS]
     ensures { λ r. ⌜ r ≡ aLimits ⌝ }
 {
     [1, 1, 1, 16, 1, 0, 1, 1, 1, 0, 1, 1, 1, 1, 1, 1]
 }
 
 // The number that field b of a node of function f is below, by the kind of the node; 0 for calls and decls; by kind.
-fn b_limits(file: &[u8], f: usize) -> [u64; 16]
+fn b_limits(file: &[u8], f: usize) -> [u64; KINDS]
     requires { ⌜ 12 * (1 + f) + 12 ≤ length (now file) ⌝ }
     ensures { λ r. ⌜ r ≡ bLimits (varsOf (now (file .entry)) f) ⌝ }
 {
@@ -53,15 +54,15 @@ fn within_limits(
     f: usize,
     part: &[u8],
     i: usize,
-    tops: &[u8; 16],
-    limits: &[u64; 16],
+    tops: &[u8; KINDS],
+    limits: &[u64; KINDS],
 ) -> bool
     requires inside { ⌜ 12 * i + 12 ≤ length (now part) ⌝ }
     requires limits { ⌜ (now tops ≡ aLimits) × (now limits ≡ bLimits (varsOf (now file) f)) ⌝ }
     ensures { λ r. ⌜ (r ≡ true → (nodeOk (now (file .entry)) f (now (part .entry)) i ≡ true) × (kindAt (now (part .entry)) i ≡ 9 → ⊥)) ⌝ }
 {
     let kind = wide(kind_at(part, i)) as usize;
-    if kind < 16 {
+    if kind < KINDS {
         let b = b_at(part, i) as u64;
         (mark_at(part, i) == NODE_MARK) & (a_at(part, i) < tops[kind]) & (b < limits[kind])
     } else {

@@ -5,6 +5,7 @@ use records::format::FUNCTION_MARK;
 use records::format::MOST_PARAMETERS;
 use records::format::MOST_VARIABLES;
 use records::format::NODE_MARK;
+use records::format::OPERATORS;
 use records::function_count;
 use records::mark_at;
 use records::mask_fits;
@@ -89,7 +90,7 @@ fn fields_ok(file: &[u8], f: usize, kind: u8, a: u8, b: u32) -> bool
         0 => a == 0,
         1 => (a == 0) & (b < 2),
         2 => (a == 0) & (b < v),
-        3 => (a < 16) & (b == 0),
+        3 => (a < OPERATORS) & (b == 0),
         4 => (a == 0) & (b == 0),
         5 => call_ok(file, a, b),
         8 => (a == 0) & (b < v),

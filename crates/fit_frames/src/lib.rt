@@ -13,6 +13,14 @@ use records::params_of;
 use records::result_of;
 use records::wide;
 use state_words::frames::frame_word;
+use state_words::layout::FRAME_AND;
+use state_words::layout::FRAME_ASSERT;
+use state_words::layout::FRAME_BRANCH;
+use state_words::layout::FRAME_CALL;
+use state_words::layout::FRAME_OPERATOR;
+use state_words::layout::FRAME_RETURN;
+use state_words::layout::FRAME_STORE;
+use state_words::layout::FRAME_WAIT;
 use varset::VarSet;
 ghost use mathlib.Core.Path.{_≡_};
 ghost use mathlib.Core.Bool.{true, false};
@@ -202,14 +210,14 @@ pub fn frame_step(
     let kind = frame_word(m, i, 0);
     let x = frame_word(m, i, 1);
     match kind {
-        1 => operator_step(file, f, part, n, decls, table, m, i, d),
-        2 => call_step(file, f, part, n, decls, table, m, i, d),
-        3 => and_step(file, f, part, n, decls, table, x, d),
-        4 => statements::wait_step(file, f, part, n, table, x, d),
-        5 => statements::store_step(file, f, part, n, decls, x, d),
-        6 => statements::branch_step(file, f, part, n, table, x, frame_word(m, i, 2), d),
-        7 => statements::leave_step(file, f, d),
-        8 => Next {
+        FRAME_OPERATOR => operator_step(file, f, part, n, decls, table, m, i, d),
+        FRAME_CALL => call_step(file, f, part, n, decls, table, m, i, d),
+        FRAME_AND => and_step(file, f, part, n, decls, table, x, d),
+        FRAME_WAIT => statements::wait_step(file, f, part, n, table, x, d),
+        FRAME_STORE => statements::store_step(file, f, part, n, decls, x, d),
+        FRAME_BRANCH => statements::branch_step(file, f, part, n, table, x, frame_word(m, i, 2), d),
+        FRAME_RETURN => statements::leave_step(file, f, d),
+        FRAME_ASSERT => Next {
             ok: d.some & (d.kind == 2),
             down: taken(d),
         },

@@ -2,6 +2,11 @@
 use state_words::layout::ACTIVATION_WORDS;
 use state_words::layout::ACTIVATIONS;
 use state_words::layout::CALLER_LIMIT;
+use state_words::layout::FORM_BOOL;
+use state_words::layout::FORM_EVAL;
+use state_words::layout::FORM_EXEC;
+use state_words::layout::FORM_INT;
+use state_words::layout::FORM_NOTHING;
 use state_words::layout::FRAME_LIMIT;
 use state_words::layout::FRAME_WORDS;
 use state_words::layout::FRAMES;
@@ -10,6 +15,12 @@ use state_words::layout::IMAGE_WORDS;
 use state_words::layout::SLOT_ROOM;
 use state_words::layout::SLOTS;
 use state_words::layout::SPARE;
+use state_words::layout::TAG_ABORT;
+use state_words::layout::TAG_ARITH;
+use state_words::layout::TAG_MAIN;
+use state_words::layout::TAG_RETURNED;
+use state_words::layout::TAG_RUNNING;
+use state_words::layout::TAG_VALUE;
 use state_words::layout::VARIABLE_ROOM;
 use state_words::layout::VARIABLES;
 ghost use mathlib.Core.Path.{_≡_};
@@ -128,11 +139,11 @@ fn control_ok(form: u32, word: u32) -> bool
     ensures { λ r. ⌜ r ≡ controlOk form word ⌝ }
 {
     match form {
-        1 => word == 0,
-        2 => true,
-        3 => word < 2,
-        4 => true,
-        5 => true,
+        FORM_NOTHING => word == 0,
+        FORM_INT => true,
+        FORM_BOOL => word < 2,
+        FORM_EVAL => true,
+        FORM_EXEC => true,
         _ => false,
     }
 }
@@ -144,12 +155,12 @@ fn tag_ok(tag: u32, int: u32, count: u32, form: u32, word: u32) -> bool
     let zero = int == 0;
     let plain = (count == 0) & ((form == 0) & (word == 0));
     match tag {
-        1 => zero & plain,
-        2 => zero & ((1 <= count) & ((count <= CALLER_LIMIT) & control_ok(form, word))),
-        3 => plain,
-        4 => plain,
-        5 => zero & plain,
-        6 => zero & plain,
+        TAG_MAIN => zero & plain,
+        TAG_RUNNING => zero & ((1 <= count) & ((count <= CALLER_LIMIT) & control_ok(form, word))),
+        TAG_RETURNED => plain,
+        TAG_VALUE => plain,
+        TAG_ARITH => zero & plain,
+        TAG_ABORT => zero & plain,
         _ => false,
     }
 }

@@ -8,6 +8,7 @@ use records::wide;
 use run_rules::Registers;
 use run_rules::Stepped;
 use state_words::Control;
+use state_words::layout::FORM_BOOL;
 use state_words::layout::FORM_EVAL;
 use state_words::layout::FORM_EXEC;
 use state_words::layout::FORM_INT;
@@ -67,7 +68,7 @@ fn put_back(m: &mut [u32], c: Control, h: Registers)
             a,
             callers,
             frames,
-            3,
+            FORM_BOOL,
             state_words::bit_of(truth),
         ),
         Control::Eval(i) => state_stack::head::store_head(m, a, callers, frames, FORM_EVAL, i),

@@ -13,6 +13,7 @@ use run_rules::Stepped;
 use state_stack::top::Top;
 use state_words::Control;
 use state_words::Value;
+use state_words::layout::FRAME_AND;
 use state_words::layout::FRAME_CALL;
 use state_words::layout::FRAME_OPERATOR;
 use state_words::layout::IMAGE_WORDS;
@@ -195,7 +196,7 @@ fn open(
             run_rules::lay(
                 m,
                 h,
-                3,
+                FRAME_AND,
                 last as u32,
                 0,
                 run_rules::gathering::reach(part, first as u32),

@@ -8,6 +8,8 @@ use run_rules::Registers;
 use run_rules::Stepped;
 use state_words::Control;
 use state_words::Value;
+use state_words::layout::FRAME_BRANCH;
+use state_words::layout::FRAME_STORE;
 use state_words::layout::FRAME_WAIT;
 ghost use mathlib.Core.Path.{_≡_};
 ghost use mathlib.Core.List.{List, _∷_, _++_};
@@ -77,7 +79,7 @@ fn execute_node(part: &[u8], m: &mut [u32], h: Registers, i: u32) -> Stepped
         8 => run_rules::lay(
             m,
             h,
-            5,
+            FRAME_STORE,
             b_at(part, at),
             0,
             run_rules::gathering::reach(part, last as u32),
@@ -97,7 +99,7 @@ fn execute_node(part: &[u8], m: &mut [u32], h: Registers, i: u32) -> Stepped
             run_rules::lay(
                 m,
                 h,
-                6,
+                FRAME_BRANCH,
                 x,
                 y,
                 run_rules::gathering::reach(part, condition as u32),
@@ -126,7 +128,7 @@ fn execute_loop(part: &[u8], m: &mut [u32], h: Registers, w: u32, inner: bool) -
         return run_rules::lay(
             m,
             h,
-            4,
+            FRAME_WAIT,
             1 + 3 * w,
             0,
             Control::Exec(ref_word_at(part, last)),
@@ -136,7 +138,7 @@ fn execute_loop(part: &[u8], m: &mut [u32], h: Registers, w: u32, inner: bool) -
     run_rules::lay(
         m,
         h,
-        6,
+        FRAME_BRANCH,
         3 + 3 * w,
         0,
         run_rules::gathering::reach(part, condition as u32),

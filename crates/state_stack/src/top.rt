@@ -1,5 +1,13 @@
 // The top frame of a running state: read as a view, and laid with the nodes of operands that wait.
 use records::nodes::prior;
+use state_words::layout::FRAME_AND;
+use state_words::layout::FRAME_ASSERT;
+use state_words::layout::FRAME_BRANCH;
+use state_words::layout::FRAME_CALL;
+use state_words::layout::FRAME_OPERATOR;
+use state_words::layout::FRAME_RETURN;
+use state_words::layout::FRAME_STORE;
+use state_words::layout::FRAME_WAIT;
 use state_words::layout::FRAME_WORDS;
 use state_words::layout::FRAMES;
 use state_words::layout::SLOTS;
@@ -43,14 +51,14 @@ pub fn top_frame(m: &[u32], n: usize) -> Top
     let x = m[at + 1];
     let y = m[at + 2];
     match kind {
-        1 => Top::Operator(x, y, m[at + 3]),
-        2 => Top::Call(x, y, m[at + 3]),
-        3 => Top::And(x),
-        4 => Top::Wait(x),
-        5 => Top::Store(x),
-        6 => Top::Branch(x, y),
-        7 => Top::Leave,
-        8 => Top::Assert,
+        FRAME_OPERATOR => Top::Operator(x, y, m[at + 3]),
+        FRAME_CALL => Top::Call(x, y, m[at + 3]),
+        FRAME_AND => Top::And(x),
+        FRAME_WAIT => Top::Wait(x),
+        FRAME_STORE => Top::Store(x),
+        FRAME_BRANCH => Top::Branch(x, y),
+        FRAME_RETURN => Top::Leave,
+        FRAME_ASSERT => Top::Assert,
         _ => Top::Discard,
     }
 }

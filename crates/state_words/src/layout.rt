@@ -1,4 +1,4 @@
-// The numbers of the layout, and the limits of the machine, which are apart from the room for what they limit.
+// The numbers of the layout, and the limits of the machine; the room for callers and frames is a number of the contracts alone.
 
 // The words of an image.
 pub const IMAGE_WORDS: usize = 16384;
@@ -21,20 +21,11 @@ pub const FRAMES: usize = 4480;
 // Where the spare words begin, which are zero.
 pub const SPARE: usize = 14720;
 
-// How many spare words there are.
-pub const SPARE_WORDS: usize = 1664;
-
 // Where the slots begin in a frame.
 pub const SLOTS: usize = 4;
 
 // Where the variables begin in an activation.
 pub const VARIABLES: usize = 8;
-
-// The room for activations.
-pub const CALLER_ROOM: usize = 32;
-
-// The room for frames.
-pub const FRAME_ROOM: usize = 512;
 
 // The room for operands in a frame.
 pub const SLOT_ROOM: u32 = 7;
@@ -107,6 +98,3 @@ pub const FRAME_RETURN: u32 = 7;
 
 // The kind of `assert(_)`.
 pub const FRAME_ASSERT: u32 = 8;
-
-// The kind of a frame that discards a value.
-pub const FRAME_DISCARD: u32 = 9;

@@ -3,6 +3,10 @@ pub mod activations;
 pub mod frames;
 pub mod layout;
 
+use crate::layout::FORM_BOOL;
+use crate::layout::FORM_EVAL;
+use crate::layout::FORM_INT;
+use crate::layout::FORM_NOTHING;
 ghost use mathlib.Core.Path.{_≡_};
 ghost use mathlib.Core.List.{[], _∷_};
 ghost use Prim.Native.Nat.{_+_, _≤_};
@@ -105,10 +109,10 @@ pub fn control_of(form: u32, word: u32) -> Control
     ensures { λ r. ⌜ controlIs r ≡ controlOf form word ⌝ }
 {
     match form {
-        1 => Control::Nothing,
-        2 => Control::Int(word),
-        3 => Control::Truth(word == 1),
-        4 => Control::Eval(word),
+        FORM_NOTHING => Control::Nothing,
+        FORM_INT => Control::Int(word),
+        FORM_BOOL => Control::Truth(word == 1),
+        FORM_EVAL => Control::Eval(word),
         _ => Control::Exec(word),
     }
 }
