@@ -13,6 +13,7 @@ use Rattle.spec_machine.specs.Values.{Value}
 use Rattle.spec_machine.specs.Machine.{Exception, abort, Frame, Control, Saved, saved, emptyEnv, State, exception, main, returned, running}
 use Rattle.spec_machine.specs.Fit as fit
 use Rattle.spec_machine.specs.Fit.{WithinLimits, callerLimit, frameLimit}
+use Rattle.spec_image.specs.Sizes.{callerRoom, frameRoom}
 use Rattle.spec_image.specs.Layout.{filled, frameWords, activationWords}
 use Rattle.spec_image.specs.Image.{savedActivations, savedFrames, headWords, activationsOf, framesOf, image}
 use Rattle.spec_image.specs.Decode.{frameOf, controlOf, activationOf, framesHeld, callersOf, runningOf, activationsIn, framesIn, states, stateOf}
@@ -23,10 +24,10 @@ use Rattle.spec_image.proofs.BlockLengths.{length-filled, filled-at, fr
 -- ---- sizes
 
 -- the limits are within the rooms of an image
-callers-room : callerLimit ≤ 32
+callers-room : callerLimit ≤ callerRoom
 callers-room = omega arith
 
-frames-room : frameLimit ≤ 512
+frames-room : frameLimit ≤ frameRoom
 frames-room = omega arith
 
 pub length-saved : (A : List Saved) → length (savedActivations A) ≡ length A
