@@ -22,7 +22,7 @@ use Rattle.spec_image.specs.Sizes.{size}
 use Rattle.spec_image.specs.Memory.{Holds}
 use Rattle.spec_image.specs.Narrow.{NarrowFrame, NarrowActivation, Narrow}
 use Rattle.spec_image.proofs.BlockLengths.{length-filled, frame-wide, activation-wide, every-so}
-use Rattle.spec_image.proofs.Images.{length-frames, few-frames, frames-held, activationRoom, frameRoom, length-activations, image-parts, head-word, count-in, activations-in}
+use Rattle.spec_image.proofs.Images.{length-frames, few-frames, frames-held, activationRegion, frameRegion, length-activations, image-parts, head-word, count-in, activations-in}
 use Rattle.spec_image.proofs.Memory.{held-whole}
 use Rattle.fit_image.specs.BlockTests.{frameOk, activationOk}
 use Rattle.fit_image.specs.MemoryTest.{tagOk, headOk, activationsOk, framesOk, imageOk}
@@ -73,7 +73,7 @@ module _ (s : State) (R : List ℕ) (w : WithinLimits s) (n : Narrow s) where
       let k : length H ≡ 128 = length-filled 128 (headWords s) in
       let z : (T : List ℕ) → take 123 (drop 5 (H ++ T)) ≡ take 123 (drop 5 H)
       = λ T. rw (drop-append-le 5 H T (omega arith)) (take-append-le 123 (drop 5 H) T (simp length-drop (omega arith))) in
-      let o : allZero (take 123 (drop 5 (image s ++ R))) ≡ true = rw (image-parts s R, z (activationRoom s ++ (frameRoom s ++ (replicate 1664 0 ++ R)))) (head-zeros s) in
+      let o : allZero (take 123 (drop 5 (image s ++ R))) ≡ true = rw (image-parts s R, z (activationRegion s ++ (frameRegion s ++ (replicate 1664 0 ++ R)))) (head-zeros s) in
       rw (
         head-word s R 0 (omega arith),
         head-word s R 1 (omega arith),
@@ -88,7 +88,7 @@ module _ (s : State) (R : List ℕ) (w : WithinLimits s) (n : Narrow s) where
   unfolding activationsOk
   activations-pass =
       let H = filled 128 (headWords s) in
-      let T = frameRoom s ++ (replicate 1664 0 ++ R) in
+      let T = frameRegion s ++ (replicate 1664 0 ++ R) in
       let k : length H ≡ 128 = length-filled 128 (headWords s) in
       let v = every (Wide 136 activationWords) activation-wide (activationsOf s) in
       let c = every-so NarrowActivation (λ a. activationOk (activationWords a) ≡ true) activation-passes (activationsOf s) (n .activations) in
@@ -101,13 +101,13 @@ module _ (s : State) (R : List ℕ) (w : WithinLimits s) (n : Narrow s) where
   frames-pass : framesOk (image s ++ R) (length (framesOf s)) ≡ true
   unfolding framesOk
   frames-pass =
-      let H = filled 128 (headWords s) ++ activationRoom s in
+      let H = filled 128 (headWords s) ++ activationRegion s in
       let T = replicate 1664 0 ++ R in
-      let k : length H ≡ 4480 = omega (arith, length-append (filled 128 (headWords s)) (activationRoom s), length-filled 128 (headWords s), length-activations s w) in
-      let p : image s ++ R ≡ H ++ (frameRoom s ++ T) = image-parts s R ∙ sym (append-assoc (filled 128 (headWords s)) (activationRoom s) _) in
+      let k : length H ≡ 4480 = omega (arith, length-append (filled 128 (headWords s)) (activationRegion s), length-filled 128 (headWords s), length-activations s w) in
+      let p : image s ++ R ≡ H ++ (frameRegion s ++ T) = image-parts s R ∙ sym (append-assoc (filled 128 (headWords s)) (activationRegion s) _) in
       let v = every (Wide 20 frameWords) frame-wide (framesOf s) in
       let c = every-so NarrowFrame (λ f. frameOk (frameWords f) ≡ true) frame-passes (framesOf s) (n .frames) in
-      let d : drop 14720 (H ++ (frameRoom s ++ T)) ≡ T = drop-region 20 frameWords H T 512 4480 (framesOf s) k v (few-frames s w) in
+      let d : drop 14720 (H ++ (frameRegion s ++ T)) ≡ T = drop-region 20 frameWords H T 512 4480 (framesOf s) k v (few-frames s w) in
       let t : take 1664 (replicate {A = ℕ} 1664 0 ++ R) ≡ replicate 1664 0 = take-at (replicate 1664 0) R 1664 (length-replicate {A = ℕ} 1664 0) in
       rw (
         p,

@@ -74,17 +74,17 @@ length-three : (a b c : List ℕ) → length (a ++ (b ++ c)) ≡ length a + (len
 length-three a b c = simp length-append
 
 module _ (s : State) where
-  -- the rooms of the activations and of the frames
-  abbrev pub activationRoom : List ℕ
-  activationRoom = region 136 activationWords 32 (activationsOf s)
+  -- the words of the activations and of the frames, each in its room
+  abbrev pub activationRegion : List ℕ
+  activationRegion = region 136 activationWords 32 (activationsOf s)
 
-  abbrev pub frameRoom : List ℕ
-  frameRoom = region 20 frameWords 512 (framesOf s)
+  abbrev pub frameRegion : List ℕ
+  frameRegion = region 20 frameWords 512 (framesOf s)
 
-  pub length-activations : WithinLimits s → length activationRoom ≡ 4352
+  pub length-activations : WithinLimits s → length activationRegion ≡ 4352
   length-activations w = length-region 136 activationWords 32 (activationsOf s) (every (Wide 136 activationWords) activation-wide (activationsOf s)) (few-activations s w)
 
-  pub length-stack : WithinLimits s → length frameRoom ≡ 10240
+  pub length-stack : WithinLimits s → length frameRegion ≡ 10240
   length-stack w = length-region 20 frameWords 512 (framesOf s) (every (Wide 20 frameWords) frame-wide (framesOf s)) (few-frames s w)
 
   pub image-length : WithinLimits s → length (image s) ≡ 16384
@@ -92,8 +92,8 @@ module _ (s : State) where
   image-length w =
       omega (
         arith,
-        length-three (filled 128 (headWords s)) activationRoom (frameRoom ++ replicate 1664 0),
-        length-append frameRoom (replicate 1664 0),
+        length-three (filled 128 (headWords s)) activationRegion (frameRegion ++ replicate 1664 0),
+        length-append frameRegion (replicate 1664 0),
         length-filled 128 (headWords s),
         length-activations w,
         length-stack w,
@@ -101,7 +101,7 @@ module _ (s : State) where
       )
 
   -- the head, the activations, the frames, and what is left
-  pub image-parts : (R : List ℕ) → image s ++ R ≡ filled 128 (headWords s) ++ (activationRoom ++ (frameRoom ++ (replicate 1664 0 ++ R)))
+  pub image-parts : (R : List ℕ) → image s ++ R ≡ filled 128 (headWords s) ++ (activationRegion ++ (frameRegion ++ (replicate 1664 0 ++ R)))
   unfolding image
   image-parts R = simp append-assoc
 
@@ -134,9 +134,9 @@ module _ (s : State) (R : List ℕ) (n : Narrow s) where
   pub frames-in : WithinLimits s → framesIn (image s ++ R) ≡ framesOf s
   unfolding framesIn
   frames-in w =
-      let H = filled 128 (headWords s) ++ activationRoom s in
-      let k : length H ≡ 4480 = omega (arith, length-append (filled 128 (headWords s)) (activationRoom s), length-filled 128 (headWords s), length-activations s w) in
-      let e : image s ++ R ≡ H ++ (frameRoom s ++ (replicate 1664 0 ++ R)) = image-parts s R ∙ sym (append-assoc (filled 128 (headWords s)) (activationRoom s) _) in
+      let H = filled 128 (headWords s) ++ activationRegion s in
+      let k : length H ≡ 4480 = omega (arith, length-append (filled 128 (headWords s)) (activationRegion s), length-filled 128 (headWords s), length-activations s w) in
+      let e : image s ++ R ≡ H ++ (frameRegion s ++ (replicate 1664 0 ++ R)) = image-parts s R ∙ sym (append-assoc (filled 128 (headWords s)) (activationRegion s) _) in
       rw (activations-in, frames-held s, e)
       (entries-region 20 frameWords frameOf H (replicate 1664 0 ++ R) 512 4480 (framesOf s) k
       (every (Wide 20 frameWords) frame-wide (framesOf s))
