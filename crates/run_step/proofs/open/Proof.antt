@@ -25,7 +25,7 @@ cast-x : tie.Need-cast-x
 cast-x c = search needs
 
 variable-requires : tie.Need-variable-requires
-variable-requires c κs = let q = c .before .before .before .before .before .before .before .pre in (q .0 .0, q .0 .1, rw (c .before .b-at .ensures) (q .2 .variable (sym (c .before .before .before .kind-at .ensures) ∙ c .before .before .match .keys1)))
+variable-requires c κs = let q = c .before .before .before .before .before .before .before .pre in (q .0 .0, omega (arith, q .0 .1), rw (c .before .b-at .ensures) (q .2 .variable (sym (c .before .before .before .kind-at .ensures) ∙ c .before .before .match .keys1)))
 
 at-hand-requires : tie.Need-at-hand-requires
 at-hand-requires c κs = search needs
