@@ -7,6 +7,9 @@ ghost use lib.IntN.{natAbs};
 ghost use Rattle.desk_files.specs.Kept.{Inside};
 ghost use Rattle.desk_files.specs.Names.{Plain};
 
+// The descriptor that the name of one dash is read from.
+const DASH: i32 = 3;
+
 // How many bytes of a file are kept, or the number of the error that the system gave.
 pub enum Content {
     Bytes(usize),
@@ -32,10 +35,21 @@ fn read_file(fd: i32, file: &mut [u8]) -> Content
     Content::Bytes(n)
 }
 
-// Opens, reads and closes the file of that name.
+// Whether a name is the one dash that stands for standard input.
+fn is_dash(name: &[u8]) -> bool {
+    if name.len() != 1 {
+        return false;
+    }
+    name[0] == b'-'
+}
+
+// Opens, reads and closes the file of that name; one dash is what descriptor 3 gives, since names come by standard input.
 pub fn content_of(name: &[u8], file: &mut [u8]) -> Content
     ensures { λ r. ⌜ Inside r (length (now (file .exit))) ⌝ }
 {
+    if is_dash(name) {
+        return read_file(DASH, file);
+    }
     let fd = os::open_read(name);
     if fd < 0 {
         return Content::Failed(os::errno());

@@ -253,8 +253,8 @@ fn put_body(templates: &[u8], part: &[u8], s: Subject, out: &mut [u8], at: usize
     w.at
 }
 
-// Puts the part of a function, each node by the template of its kind, with the record at a place marked; by kind.
-fn put_part(file: &[u8], function: usize, place: usize, out: &mut [u8], at: usize) -> usize
+// Puts a function, each node by the template of its kind, with the record at a place marked, or none for place 0; by kind.
+pub fn put_function(file: &[u8], function: usize, place: usize, out: &mut [u8], at: usize) -> usize
     ensures { λ r. ⌜ r ≤ length (now (out .exit)) ⌝ }
 {
     let extent = desk_places::part_extent(file, function);
@@ -287,12 +287,12 @@ pub fn put_listing(file: &[u8], place: usize, out: &mut [u8], at: usize) -> usiz
     ensures { λ r. ⌜ r ≤ length (now (out .exit)) ⌝ }
 {
     match desk_places::locate(file, place) {
-        Place::Function { function } => put_part(file, function, place, out, at),
+        Place::Function { function } => put_function(file, function, place, out, at),
         Place::Node {
             function,
             node: _,
             kind: _,
-        } => put_part(file, function, place, out, at),
+        } => put_function(file, function, place, out, at),
         _ => put(out, at, b"    no function has this record\n"),
     }
 }

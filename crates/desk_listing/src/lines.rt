@@ -120,6 +120,17 @@ fn line_marked(part: &[u8], n: usize, i: usize, marked: usize) -> bool
     (marked <= i) & (i < wrapping_add_usize(marked, size_at(part, i)))
 }
 
+// Puts the start of the line that node i begins: with its own record or, where the line has the marked node, with that one's.
+fn put_start(part: &[u8], s: Subject, i: usize, depth: usize, out: &mut [u8], at: usize) -> usize
+    requires { ⌜ 12 * (s .nodes) ≤ length (now part) ⌝ }
+    requires { ⌜ i < s .nodes ⌝ }
+    ensures { λ r. ⌜ r ≤ length (now (out .exit)) ⌝ }
+{
+    let marked = line_marked(part, s.nodes, i, s.marked);
+    let shown = if marked { s.marked } else { i };
+    put_margin(wrapping_add_usize(s.first, shown), marked, depth, out, at)
+}
+
 // Puts what a letter or a sign of a template stands for at node i.
 pub fn put_piece(
     part: &[u8],
@@ -139,13 +150,7 @@ pub fn put_piece(
         b':' => put(out, at, b";\n"),
         b'N' => put(out, at, b"\n"),
         b'M' => put_margin(0, false, depth, out, at),
-        b'L' => put_margin(
-            wrapping_add_usize(s.first, i),
-            line_marked(part, s.nodes, i, s.marked),
-            depth,
-            out,
-            at,
-        ),
+        b'L' => put_start(part, s, i, depth, out, at),
         b'D' => put_margin(
             wrapping_add_usize(s.first, i),
             i == s.marked,

@@ -154,12 +154,11 @@ fn put_function(
     }
 }
 
-// Puts the function, the node and its kind: `function 0, node 6 (variable 0)`.
+// Puts the function, the record and what the node is: `function 0, record 8 (variable 0)`.
 fn put_named(
     file: &[u8],
     place: usize,
     function: usize,
-    node: usize,
     kind: u8,
     out: &mut [u8],
     at: usize,
@@ -167,7 +166,7 @@ fn put_named(
     ensures { λ r. ⌜ r ≤ length (now (out .exit)) ⌝ }
 {
     let a = put_numbered(out, at, b"function ", function as u64);
-    let b = put_numbered(out, a, b", node ", node as u64);
+    let b = put_numbered(out, a, b", record ", place as u64);
     if file.len() / 12 <= place {
         return b;
     }
@@ -261,13 +260,13 @@ fn put_node(file: &[u8], question: u8, place: usize, out: &mut [u8], at: usize) 
 {
     let Place::Node {
         function,
-        node,
+        node: _,
         kind,
     } = desk_places::locate(file, place)
     else {
         return put(out, at, b"no node stands at this place");
     };
-    let next = put_named(file, place, function, node, kind, out, at);
+    let next = put_named(file, place, function, kind, out, at);
     put_fault(file, question, place, function, kind, out, next)
 }
 

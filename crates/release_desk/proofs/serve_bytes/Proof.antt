@@ -1,15 +1,15 @@
 use Prim.Native.Nat.{_-_}
-use lib.ListN.{length}
 use mathlib.Core.Path.{_≡_}
+use lib.ListN.{length}
 use borrow.Author.Needs.{needs}
 use Rattle.release_desk.proofs.serve_bytes.Statement.{statement}
 use Rattle.release_desk.proofs.serve_bytes.Tie as tie
 
 abbrev Inv-loop : tie.InvT-loop
-Inv-loop bytes name₀ file₀ out₀ state₀ i₀ name file out state i = (length name ≡ length name₀) × (length file ≡ length file₀) × (length out ≡ length out₀)
+Inv-loop bytes name₀ file₀ revision out₀ tally₀ state₀ i₀ name file out tally state i = (length name ≡ length name₀) × (length file ≡ length file₀) × (length out ≡ length out₀) × (length tally ≡ length tally₀)
 
 abbrev μ-loop : tie.MeasureT-loop
-μ-loop bytes name₀ file₀ out₀ state₀ i₀ name file out state i = length bytes - i
+μ-loop bytes name₀ file₀ revision out₀ tally₀ state₀ i₀ name file out tally state i = length bytes - i
 
 loop-holds : tie.Need-loop-holds Inv-loop μ-loop
 loop-holds c = search needs
@@ -38,6 +38,9 @@ same-length-2 c = search needs
 same-length-3 : tie.Need-same-length-3 Inv-loop μ-loop
 same-length-3 c = search needs
 
+same-length-4 : tie.Need-same-length-4 Inv-loop μ-loop
+same-length-4 c = search needs
+
 returns : tie.Need-returns Inv-loop μ-loop
 returns c = search needs
 
@@ -56,4 +59,5 @@ serve-bytes-spec =
     same-length
     same-length-2
     same-length-3
+    same-length-4
     returns)

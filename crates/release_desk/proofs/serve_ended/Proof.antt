@@ -1,14 +1,15 @@
-use lib.ListN.{length}
 use mathlib.Core.Path.{_≡_}
+use lib.ListN.{length}
 use borrow.Author.Needs.{needs}
 use Rattle.release_desk.proofs.serve_ended.Statement.{statement}
 use Rattle.release_desk.proofs.serve_ended.Tie as tie
 
 abbrev Inv-loop : tie.InvT-loop
-Inv-loop name₀ file₀ out₀ bytes₀ state₀ turns₀ name file out bytes state turns = (length name ≡ length name₀) × (length file ≡ length file₀) × (length out ≡ length out₀) × (4096 ≡ length bytes)
+Inv-loop name₀ file₀ revision out₀ tally₀ bytes₀ state₀ turns₀ name file out tally bytes state turns =
+    (length name ≡ length name₀) × (length file ≡ length file₀) × (length out ≡ length out₀) × (length tally ≡ length tally₀) × (4096 ≡ length bytes)
 
 abbrev μ-loop : tie.MeasureT-loop
-μ-loop name₀ file₀ out₀ bytes₀ state₀ turns₀ name file out bytes state turns = turns
+μ-loop name₀ file₀ revision out₀ tally₀ bytes₀ state₀ turns₀ name file out tally bytes state turns = turns
 
 loop-holds : tie.Need-loop-holds Inv-loop μ-loop
 loop-holds c = search needs
@@ -34,6 +35,9 @@ same-length-2 c = search needs
 same-length-3 : tie.Need-same-length-3 Inv-loop μ-loop
 same-length-3 c = search needs
 
+same-length-4 : tie.Need-same-length-4 Inv-loop μ-loop
+same-length-4 c = search needs
+
 returns : tie.Need-returns Inv-loop μ-loop
 returns c = search needs
 
@@ -55,14 +59,17 @@ loop-less c = search needs
 loop-again : tie.Need-loop-again Inv-loop μ-loop
 loop-again c = search needs
 
-same-length-4 : tie.Need-same-length-4 Inv-loop μ-loop
-same-length-4 c = search needs
-
 same-length-5 : tie.Need-same-length-5 Inv-loop μ-loop
 same-length-5 c = search needs
 
 same-length-6 : tie.Need-same-length-6 Inv-loop μ-loop
 same-length-6 c = search needs
+
+same-length-7 : tie.Need-same-length-7 Inv-loop μ-loop
+same-length-7 c = search needs
+
+same-length-8 : tie.Need-same-length-8 Inv-loop μ-loop
+same-length-8 c = search needs
 
 returns-2 : tie.Need-returns-2 Inv-loop μ-loop
 returns-2 c = search needs
@@ -81,6 +88,7 @@ serve-ended-spec =
     same-length
     same-length-2
     same-length-3
+    same-length-4
     returns
     array-share-prefix-bytes
     slice-aggregate-serve-bytes
@@ -88,7 +96,8 @@ serve-ended-spec =
     sub-turns
     loop-less
     loop-again
-    same-length-4
     same-length-5
     same-length-6
+    same-length-7
+    same-length-8
     returns-2)
