@@ -180,8 +180,8 @@ fn put_fields(file: &[u8], place: usize, kind: u8, out: &mut [u8], at: usize) ->
     ensures { λ r. ⌜ r ≤ length (now (out .exit)) ⌝ }
 {
     match desk_faults::node_fault(file, place) {
-        NodeFault::Missing => put(out, at, b" has no record"),
-        NodeFault::Mark => put(out, at, b" has a record that does not begin with ND"),
+        NodeFault::Missing => put(out, at, b" is not in the file"),
+        NodeFault::Mark => put(out, at, b" does not begin with ND"),
         NodeFault::Kind => put(out, at, b" is of a kind that C0 does not have"),
         NodeFault::Fields => put_word(
             out,
@@ -197,7 +197,7 @@ fn put_size(file: &[u8], place: usize, function: usize, out: &mut [u8], at: usiz
     ensures { λ r. ⌜ r ≤ length (now (out .exit)) ⌝ }
 {
     if file.len() / 12 <= place {
-        return put(out, at, b" has no record");
+        return put(out, at, b" is not in the file");
     }
     let size = size_at(file, place);
     let next = put_numbered(out, at, b" has the size ", size as u64);
