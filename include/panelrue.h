@@ -21,6 +21,12 @@
 extern "C" {
 #endif
 
+/* The version of the library, as CHANGELOG.md numbers it. */
+#define PANELRUE_VERSION_MAJOR 0
+#define PANELRUE_VERSION_MINOR 1
+#define PANELRUE_VERSION_PATCH 0
+#define PANELRUE_VERSION "0.1.0"
+
 /* The bytes of the longest procedure that can pass: a header, 128 functions and 4,096 nodes of 12 bytes each. */
 #define PANELRUE_LONGEST_FILE 50700
 

@@ -1,17 +1,42 @@
 -- Fields below their limits pass question 7.
-use mathlib.Core.Path.{_≡_, refl}
+use mathlib.Core.Path.{_≡_, refl, sym}
 use mathlib.Core.Bool.{true, _&&_}
 use mathlib.Core.List.{List}
-use Prim.Native.Nat.{ℕ, _<_, zero-le}
+use Prim.Native.Nat.{ℕ, _≤_, _<_, zero-le}
 use native.Mathlib.Omega.{arith}
 use lib.Dec.{eqb, ltb}
-use lib.ListN.{getD}
+use lib.ListN.{getD, List·getD-eq-default}
 use borrow.Author.Tests.{ltb-true, eq-eqb}
 use Rattle.records.specs.Fields.{markAt, varsOf, kindAt, aAt, bAt}
 use Rattle.records.proofs.Bools.{and-left, and-right, and-both}
 use Rattle.spec_language.specs.Nodes.{fields, fieldsOk, nodeOk}
 use Rattle.check_shape.proofs.Fields.{in-range}
 use Rattle.check_pass.specs.Limits.{aLimits, bLimits}
+
+-- kinds 0 to 15 that have no arm of their own, and kinds past 15
+pub a-rest : (k : ℕ) → k < 16 → (k ≡ 3 → ⊥) → (k ≡ 5 → ⊥) → (k ≡ 9 → ⊥) → 1 ≡ getD aLimits k 0
+unfolding aLimits
+a-rest k l = in-range (λ k. (k ≡ 3 → ⊥) → (k ≡ 5 → ⊥) → (k ≡ 9 → ⊥) → 1 ≡ getD aLimits k 0) 0 16
+    (one, (one, (one, (λ p q r. absurd (p refl), (one, (λ p q r. absurd (q refl), (one, (one, (one, (λ p q r. absurd (r refl), (one, (one, (one, (one, (one, (one, refl)))))))))))))))) k zero-le l
+  where
+    one : {A B C : Type 0} → A → B → C → _≡_ {A = ℕ} 1 1
+    one p q r = refl
+
+pub a-past : (k : ℕ) → 16 ≤ k → 0 ≡ getD aLimits k 0
+unfolding aLimits
+a-past k h = sym (List·getD-eq-default aLimits 0 {n = k} h)
+
+pub b-rest : (v k : ℕ) → k < 16 → (k ≡ 0 → ⊥) → (k ≡ 1 → ⊥) → (k ≡ 2 → ⊥) → (k ≡ 8 → ⊥) → (k ≡ 5 → ⊥) → (k ≡ 9 → ⊥) → 1 ≡ getD (bLimits v) k 0
+unfolding bLimits
+b-rest v k l = in-range (λ k. (k ≡ 0 → ⊥) → (k ≡ 1 → ⊥) → (k ≡ 2 → ⊥) → (k ≡ 8 → ⊥) → (k ≡ 5 → ⊥) → (k ≡ 9 → ⊥) → 1 ≡ getD (bLimits v) k 0) 0 16
+    (λ a b c d e f. absurd (a refl), (λ a b c d e f. absurd (b refl), (λ a b c d e f. absurd (c refl), (one, (one, (λ a b c d e f. absurd (e refl), (one, (one, (λ a b c d e f. absurd (d refl), (λ a b c d e f. absurd (f refl), (one, (one, (one, (one, (one, (one, refl)))))))))))))))) k zero-le l
+  where
+    one : {A B C D E F : Type 0} → A → B → C → D → E → F → _≡_ {A = ℕ} 1 1
+    one a b c d e f = refl
+
+pub b-past : (v k : ℕ) → 16 ≤ k → 0 ≡ getD (bLimits v) k 0
+unfolding bLimits
+b-past v k h = sym (List·getD-eq-default (bLimits v) 0 {n = k} h)
 
 below-one : (x : ℕ) → ltb x 1 ≡ true → eqb x 0 ≡ true
 below-one x e = eq-eqb x 0 (omega (arith, ltb-true x 1 e))

@@ -3,6 +3,7 @@ use check_scopes::Declared;
 use records::Found;
 use records::format::KINDS;
 use records::format::NODE_MARK;
+use records::format::OPERATORS;
 use records::format::VARIABLE_ENTRIES;
 use records::mark_at;
 use records::nodes::a_at;
@@ -14,7 +15,7 @@ use varset::VarSet;
 ghost use mathlib.Core.Path.{_≡_};
 ghost use mathlib.Core.Bool.{true};
 ghost use Prim.Native.Nat.{_+_, _*_, _≤_, _<_};
-ghost use lib.ListN.{length};
+ghost use lib.ListN.{length, getD};
 ghost use Rattle.records.specs.Fields.{functions, varsOf, kindAt};
 ghost use Rattle.records.specs.Parts.{Laid};
 ghost use Rattle.spec_language.specs.Nodes.{nodeOk};
@@ -32,20 +33,81 @@ fn is_nothing(found: Found) -> bool
     }
 }
 
-// The number that field a of a node is below, by the kind of the node; 0 for calls and decls; by kind.
+// The number that field a of a node of that kind is below; 0 for calls, decls and what is no kind; by kind.
+fn a_limit(kind: u8) -> u8
+    ensures { λ r. ⌜ r ≡ getD aLimits kind 0 ⌝ }
+{
+    match kind {
+        3 => OPERATORS,
+        5 => 0,
+        9 => 0,
+        0..=15 => 1,
+        _ => 0,
+    }
+}
+
+// The number that field b is below, in a function of v variables; 0 for calls, decls and what is no kind; by kind.
+fn b_limit(kind: u8, v: u64) -> u64
+    ensures { λ r. ⌜ r ≡ getD (bLimits v) kind 0 ⌝ }
+{
+    match kind {
+        0 => 4294967296,
+        1 => 2,
+        2 | 8 => v,
+        5 | 9 => 0,
+        0..=15 => 1,
+        _ => 0,
+    }
+}
+
+// The limits of field a for all kinds.
 fn a_limits() -> [u8; KINDS]
     ensures { λ r. ⌜ r ≡ aLimits ⌝ }
 {
-    [1, 1, 1, 16, 1, 0, 1, 1, 1, 0, 1, 1, 1, 1, 1, 1]
+    [
+        a_limit(0),
+        a_limit(1),
+        a_limit(2),
+        a_limit(3),
+        a_limit(4),
+        a_limit(5),
+        a_limit(6),
+        a_limit(7),
+        a_limit(8),
+        a_limit(9),
+        a_limit(10),
+        a_limit(11),
+        a_limit(12),
+        a_limit(13),
+        a_limit(14),
+        a_limit(15),
+    ]
 }
 
-// The number that field b of a node of function f is below, by the kind of the node; 0 for calls and decls; by kind.
+// The limits of field b for all kinds, in function f.
 fn b_limits(file: &[u8], f: usize) -> [u64; KINDS]
     requires { ⌜ 12 * (1 + f) + 12 ≤ length (now file) ⌝ }
     ensures { λ r. ⌜ r ≡ bLimits (varsOf (now (file .entry)) f) ⌝ }
 {
     let v = wide(vars_of(file, f)) as u64;
-    [4294967296, 2, v, 1, 1, 0, 1, 1, v, 0, 1, 1, 1, 1, 1, 1]
+    [
+        b_limit(0, v),
+        b_limit(1, v),
+        b_limit(2, v),
+        b_limit(3, v),
+        b_limit(4, v),
+        b_limit(5, v),
+        b_limit(6, v),
+        b_limit(7, v),
+        b_limit(8, v),
+        b_limit(9, v),
+        b_limit(10, v),
+        b_limit(11, v),
+        b_limit(12, v),
+        b_limit(13, v),
+        b_limit(14, v),
+        b_limit(15, v),
+    ]
 }
 
 // Whether the limits alone show that question 7 passes at node i of function f's part, which is then no decl.

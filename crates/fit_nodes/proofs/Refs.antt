@@ -3,7 +3,7 @@ use mathlib.Core.Path.{_≡_}
 use mathlib.Core.Bool.{true, _&&_}
 use mathlib.Core.List.{List}
 use Prim.Native.Nat.{ℕ, _<_}
-use lib.Dec.{leb, ltb}
+use lib.Dec.{eqb, leb, ltb}
 use Rattle.records.specs.Fields.{kindAt}
 use Rattle.spec_machine.specs.File.{seeAt, programOf}
 use Rattle.spec_machine.specs.Test.{stmtIn}
@@ -32,7 +32,7 @@ module _ {s : List ℕ} {f : ℕ} {t : List ℕ} {n : ℕ} (p : Part s f t n) {r
 
   -- ---- the if of a while
   module _ {w : ℕ} (e : r ≡ ref.IfOf w) where
-    pub if-is : (ltb w n && (leb 11 (kindAt t w) && leb (kindAt t w) 11)) ≡ stmtIn (programOf s) f (refIs r)
+    pub if-is : (ltb w n && eqb (kindAt t w) 11) ≡ stmtIn (programOf s) f (refIs r)
     unfolding refIs
     if-is = rw e (if-sort p w)
 
@@ -42,7 +42,7 @@ module _ {s : List ℕ} {f : ℕ} {t : List ℕ} {n : ℕ} (p : Part s f t n) {r
 
   -- ---- the seq of a while
   module _ {w : ℕ} (e : r ≡ ref.SeqOf w) where
-    pub seq-is : (ltb w n && (leb 11 (kindAt t w) && leb (kindAt t w) 11)) ≡ stmtIn (programOf s) f (refIs r)
+    pub seq-is : (ltb w n && eqb (kindAt t w) 11) ≡ stmtIn (programOf s) f (refIs r)
     unfolding refIs
     seq-is = rw e (seq-sort p w)
 

@@ -6,7 +6,7 @@ use mathlib.Core.List.{List}
 use Prim.Native.Nat.{ℕ, _≤_, _<_}
 use native.Mathlib.Omega.{arith}
 use lib.Dec.{eqb, leb, ltb}
-use borrow.Author.Tests.{ltb-true, leb-true, lt-ltb, le-ltb, ne-eqb}
+use borrow.Author.Tests.{ltb-true, leb-true, eqb-true, lt-ltb, le-ltb, ne-eqb}
 use Rattle.records.specs.Fields.{varsOf, kindAt}
 use Rattle.records.specs.Parts.{partOf}
 use Rattle.records.proofs.Bools.{by, and-left, and-right}
@@ -61,60 +61,56 @@ module _ {s : List ℕ} {f : ℕ} {t : List ℕ} {n : ℕ} (p : Part s f t n) wh
 
     -- ---- statements
 
-    -- a node that is one of the part's, of a kind from low to high
-    abbrev among : ℕ → ℕ → Bool
-    among low high = ltb i n && (leb low (kindAt t i) && leb (kindAt t i) high)
-
-    -- no node of kind 7 to 14 is stray
-    no-stray : (low high : ℕ) → 7 ≤ low → high < 15 → i < n → (0 < i → (kindAt t i < 6) ⊎ (15 ≤ kindAt t i)) → (leb low (kindAt t i) && leb (kindAt t i) high) ≡ false
-    no-stray low high a b l z =
-        by (leb low (kindAt t i) && leb (kindAt t i) high)
-        (λ e.
-        let u : low ≤ kindAt t i = leb-true _ _ (and-left _ _ e) in
-        let v : kindAt t i ≤ high = leb-true _ _ (and-right (leb low (kindAt t i)) _ e) in
-        absurd (⊎-elim (λ (q : kindAt t i < 6). omega arith) (λ (q : 15 ≤ kindAt t i). omega arith) (z (inner (kindAt t i) (nodes p) l refl (omega arith) (omega arith)))))
-        (λ e. e)
+    -- a node of kind 7 to 14 is not stray
+    stray-kind : i < n → (0 < i → (kindAt t i < 6) ⊎ (15 ≤ kindAt t i)) → 7 ≤ kindAt t i → kindAt t i < 15 → ⊥
+    stray-kind l z a b =
+        ⊎-elim (λ (q : kindAt t i < 6). omega arith) (λ (q : 15 ≤ kindAt t i). omega arith) (z (inner (kindAt t i) (nodes p) l refl (omega arith) (omega arith)))
 
     -- a test of a node's form agrees with one of its kind
-    same-form : (low high : ℕ) (test : StmtForm → Bool) → (i < n → (leb low (kindAt t i) && leb (kindAt t i) high) ≡ test (formAt t i)) → among low high ≡ ltb i n && test (formAt t i)
-    same-form low high test h = by (ltb i n) (λ e. rw e (h (ltb-true _ _ e))) (λ e. rw e)
+    same-form : (own : Bool) (test : StmtForm → Bool) → (i < n → own ≡ test (formAt t i)) → ltb i n && own ≡ ltb i n && test (formAt t i)
+    same-form own test h = by (ltb i n) (λ e. rw e (h (ltb-true _ _ e))) (λ e. rw e)
 
-    pub node-sort : among 7 14 ≡ stmtIn (programOf s) f (node i)
+    pub node-sort : ltb i n && (leb 7 (kindAt t i) && leb (kindAt t i) 14) ≡ stmtIn (programOf s) f (node i)
     unfolding programOf seeAt
     node-sort =
-        same-form 7 14 (λ x. not (isNop x) && isStmt x)
+        same-form (leb 7 (kindAt t i) && leb (kindAt t i) 14) (λ x. not (isNop x) && isStmt x)
         (λ l. by-form t i (λ x. (leb 7 (kindAt t i) && leb (kindAt t i) 14) ≡ not (isNop x) && isStmt x) (λ e. rw e)
         (λ e q. rw e) (λ e q. rw e) (λ e q. rw e) (λ e q. rw e) (λ e q. rw e) (λ e q. rw e) (λ e q. rw e) (λ e q. rw e)
-        (λ k z. no-stray 7 14 (omega arith) (omega arith) l z))
+        (λ k z. by (leb 7 (kindAt t i) && leb (kindAt t i) 14)
+        (λ e.
+        let u : 7 ≤ kindAt t i = leb-true _ _ (and-left _ _ e) in
+        let v : kindAt t i ≤ 14 = leb-true _ _ (and-right (leb 7 (kindAt t i)) _ e) in
+        absurd (stray-kind l z u (omega arith)))
+        (λ e. e)))
         ∙ rw (p .part, p .count, and-assoc)
 
-    pub if-sort : among 11 11 ≡ stmtIn (programOf s) f (ifOf i)
+    stray-loop : i < n → (0 < i → (kindAt t i < 6) ⊎ (15 ≤ kindAt t i)) → eqb (kindAt t i) 11 ≡ false
+    stray-loop l z =
+        by (eqb (kindAt t i) 11) (λ e. let u : kindAt t i ≡ 11 = eqb-true _ _ e in absurd (stray-kind l z (omega arith) (omega arith))) (λ e. e)
+
+    pub if-sort : ltb i n && eqb (kindAt t i) 11 ≡ stmtIn (programOf s) f (ifOf i)
     unfolding programOf seeAt ifForm
     if-sort =
-        same-form 11 11 (λ x. isStmt (ifForm i x))
-        (λ l. by-form t i (λ x. (leb 11 (kindAt t i) && leb (kindAt t i) 11) ≡ isStmt (ifForm i x)) (λ e. rw e)
+        same-form (eqb (kindAt t i) 11) (λ x. isStmt (ifForm i x))
+        (λ l. by-form t i (λ x. eqb (kindAt t i) 11 ≡ isStmt (ifForm i x)) (λ e. rw e)
         (λ e q. rw e) (λ e q. rw e) (λ e q. rw e) (λ e q. rw e) (λ e q. rw e) (λ e q. rw e) (λ e q. rw e) (λ e q. rw e)
-        (λ k z. no-stray 11 11 (omega arith) (omega arith) l z))
+        (λ k z. stray-loop l z))
         ∙ rw (p .part, p .count)
 
-    pub seq-sort : among 11 11 ≡ stmtIn (programOf s) f (seqOf i)
+    pub seq-sort : ltb i n && eqb (kindAt t i) 11 ≡ stmtIn (programOf s) f (seqOf i)
     unfolding programOf seeAt seqForm
     seq-sort =
-        same-form 11 11 (λ x. isStmt (seqForm i x))
-        (λ l. by-form t i (λ x. (leb 11 (kindAt t i) && leb (kindAt t i) 11) ≡ isStmt (seqForm i x)) (λ e. rw e)
+        same-form (eqb (kindAt t i) 11) (λ x. isStmt (seqForm i x))
+        (λ l. by-form t i (λ x. eqb (kindAt t i) 11 ≡ isStmt (seqForm i x)) (λ e. rw e)
         (λ e q. rw e) (λ e q. rw e) (λ e q. rw e) (λ e q. rw e) (λ e q. rw e) (λ e q. rw e) (λ e q. rw e) (λ e q. rw e)
-        (λ k z. no-stray 11 11 (omega arith) (omega arith) l z))
+        (λ k z. stray-loop l z))
         ∙ rw (p .part, p .count)
 
     pub node-inside : stmtIn (programOf s) f (node i) ≡ true → i < n
     node-inside e = ltb-true i n (and-left _ _ (node-sort ∙ e))
 
-    loop-inside : among 11 11 ≡ true → (i < n) × (kindAt t i ≡ 11)
-    loop-inside e =
-        let k = and-right (ltb i n) _ e in
-        let u : 11 ≤ kindAt t i = leb-true _ _ (and-left _ _ k) in
-        let v : kindAt t i ≤ 11 = leb-true _ _ (and-right (leb 11 (kindAt t i)) _ k) in
-        (ltb-true i n (and-left _ _ e), omega arith)
+    loop-inside : ltb i n && eqb (kindAt t i) 11 ≡ true → (i < n) × (kindAt t i ≡ 11)
+    loop-inside e = (ltb-true i n (and-left _ _ e), eqb-true _ _ (and-right (ltb i n) _ e))
 
     pub if-inside : stmtIn (programOf s) f (ifOf i) ≡ true → (i < n) × (kindAt t i ≡ 11)
     if-inside e = loop-inside (if-sort ∙ e)

@@ -3,9 +3,9 @@ use records::format::VARIABLE_ENTRIES;
 use records::nodes::kind_at;
 use state_words::Ref;
 ghost use mathlib.Core.Path.{_≡_};
-ghost use mathlib.Core.Bool.{true, _&&_};
+ghost use mathlib.Core.Bool.{true, _&&_, _||_};
 ghost use Prim.Native.Nat.{_*_, _≤_, _<_};
-ghost use lib.Dec.{leb, ltb};
+ghost use lib.Dec.{eqb, leb, ltb};
 ghost use lib.ListN.{length};
 ghost use Rattle.records.specs.Fields.{varsOf, kindAt};
 ghost use Rattle.check_scopes.specs.Counts.{Decls};
@@ -16,17 +16,38 @@ ghost use Rattle.spec_machine.specs.Test.{exprIn, stmtIn};
 ghost use Rattle.state_words.specs.Meaning.{refIs};
 ghost use Rattle.fit_nodes.specs.Part.{Part};
 
-// Whether node i is one of the part's, of a kind from low to high.
-fn is_among(part: &[u8], n: usize, i: u32, low: u8, high: u8) -> bool
+// Whether a kind is a statement's, but for nop's, which no reference names by its node; by kind.
+fn is_statement_kind(kind: u8) -> bool
+    ensures { λ r. ⌜ r ≡ leb 7 kind && leb kind 14 ⌝ }
+{
+    match kind {
+        7..=14 => true,
+        _ => false,
+    }
+}
+
+// Whether node i is one of the part's, and of such a kind.
+fn is_statement_node(part: &[u8], n: usize, i: u32) -> bool
     requires { ⌜ 12 * n ≤ length (now part) ⌝ }
-    ensures { λ r. ⌜ r ≡ ltb i n && (leb low (kindAt (now (part .entry)) i) && leb (kindAt (now (part .entry)) i) high) ⌝ }
+    ensures { λ r. ⌜ r ≡ ltb i n && (leb 7 (kindAt (now (part .entry)) i) && leb (kindAt (now (part .entry)) i) 14) ⌝ }
 {
     let at = i as usize;
     if n <= at {
         return false;
     }
-    let kind = kind_at(part, at);
-    (low <= kind) & (kind <= high)
+    is_statement_kind(kind_at(part, at))
+}
+
+// Whether node w is one of the part's, and a while.
+fn is_while(part: &[u8], n: usize, w: u32) -> bool
+    requires { ⌜ 12 * n ≤ length (now part) ⌝ }
+    ensures { λ r. ⌜ r ≡ ltb w n && eqb (kindAt (now (part .entry)) w) 11 ⌝ }
+{
+    let at = w as usize;
+    if n <= at {
+        return false;
+    }
+    kind_at(part, at) == 11
 }
 
 // The decl of each variable of function f's part.
@@ -65,13 +86,23 @@ pub fn is_expression(file: &[u8], f: usize, part: &[u8], n: usize, i: u32) -> bo
     }
 }
 
-// Whether the expression at node i is a constant; by kind.
+// Whether a kind is a constant's; by kind.
+fn is_constant_kind(kind: u8) -> bool
+    ensures { λ r. ⌜ r ≡ ltb kind 2 || eqb kind 15 ⌝ }
+{
+    match kind {
+        0..=1 => true,
+        15 => true,
+        _ => false,
+    }
+}
+
+// Whether the expression at node i is a constant.
 pub fn is_constant(file: &[u8], f: usize, part: &[u8], n: usize, i: u32) -> bool
     requires { ⌜ Part (now file) f (now part) n × (exprIn (programOf (now file)) f i ≡ true) ⌝ }
     ensures { λ r. ⌜ r ≡ isConst (programOf (now (file .entry)) .look f i) ⌝ }
 {
-    let kind = kind_at(part, i as usize);
-    (kind < 2) | (kind == 15)
+    is_constant_kind(kind_at(part, i as usize))
 }
 
 // The type of the expression at node i.
@@ -89,15 +120,15 @@ pub fn expression_type(
     check_types::type_of(file, f, part, n, decls, i as usize)
 }
 
-// Whether a reference names a statement of function f; by kind.
+// Whether a reference names a statement of function f.
 pub fn is_statement(file: &[u8], f: usize, part: &[u8], n: usize, r: Ref) -> bool
     requires { ⌜ Part (now file) f (now part) n ⌝ }
     ensures { λ b. ⌜ b ≡ stmtIn (programOf (now (file .entry))) f (refIs r) ⌝ }
 {
     match r {
         Ref::Nop => true,
-        Ref::Node(i) => is_among(part, n, i, 7, 14),
-        Ref::IfOf(w) => is_among(part, n, w, 11, 11),
-        Ref::SeqOf(w) => is_among(part, n, w, 11, 11),
+        Ref::Node(i) => is_statement_node(part, n, i),
+        Ref::IfOf(w) => is_while(part, n, w),
+        Ref::SeqOf(w) => is_while(part, n, w),
     }
 }

@@ -69,6 +69,11 @@ pub fn ands(nodes: usize) -> File {
     main(0, seq(assert_that(all), ret(int(0))))
 }
 
+/// A statement of two nodes inside as many others as a file has room for, 2,079: 2,015 of two nodes each, and 64 decls around them.
+pub fn deepest(inner: Stmt, wrap: impl Fn(Stmt) -> Stmt) -> File {
+    main(64, (0..64).fold(nest(2015, inner, wrap), |s, x| decl(x, INT, s)))
+}
+
 /// nops before a return, nested to the right.
 pub fn seq_right(nodes: usize) -> File {
     main(0, nest((nodes - 2) / 2, ret(int(0)), |s| seq(nop(), s)))

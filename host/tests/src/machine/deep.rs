@@ -4,11 +4,13 @@ use super::trial::{Model, Trial};
 use super::Entries;
 use crate::report::Outcome;
 use generators::shapes;
+use generators::tree::*;
+use reference::image::WORDS;
 
 /// The stack that the entry points get.
 const SMALL_STACK: usize = 1 << 20;
 
-/// Every regular shape at the greatest size: run, checked and looked into.
+/// Every regular shape at the greatest size: run, checked and looked into; and the deepest statements, which are refused.
 pub fn outcome(side: &Entries) -> Outcome {
     let made: Vec<(&str, Model)> =
         shapes::ALL.iter().map(|(name, shape)| (*name, Model::new(&shape(4096)))).collect();
@@ -33,5 +35,18 @@ fn calls(side: &Entries, made: &[(&str, Model)]) -> Outcome {
         }
         outcome.add(trial.outcome);
     }
+    outcome.add(refused(side, &made[0].1));
     outcome
+}
+
+/// The deepest statements in files that questions 13 and 14 refuse, by every entry point, on a memory of another file.
+fn refused(side: &Entries, model: &Model) -> Outcome {
+    let mut trial = Trial::started(side, model, "deepest statements".to_string());
+    for inner in [ret(var(0)), discard(int(0))] {
+        let file = shapes::deepest(inner, |s| seq(s, nop())).bytes();
+        for call in 0..4 {
+            trial.refused(&file, WORDS, call);
+        }
+    }
+    trial.outcome
 }

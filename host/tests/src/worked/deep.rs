@@ -18,6 +18,10 @@ pub fn accepted() -> Group {
     g.accepted("2,045 && nested left", main(0, seq(assert_that(ands), ret(int(0)))));
     let both = (0..10).fold(ret(int(0)), |s, _| seq(s.clone(), s));
     g.accepted("a balanced seq of 1,024 returns", main(0, both));
+    let left = shapes::deepest(ret(int(0)), |s| seq(s, nop()));
+    g.accepted("64 decls over 2,015 seqs left", left);
+    let right = shapes::deepest(ret(int(0)), |s| seq(nop(), s));
+    g.accepted("64 decls over 2,015 seqs right", right);
     g
 }
 
@@ -61,7 +65,21 @@ pub fn refused() -> Group {
     let place = last_place(&whiles) - 3;
     g.refused("2,046 whiles, the outermost condition", whiles, 12, place);
     empty_reads(&mut g);
+    deepest(&mut g);
     g
+}
+
+/// The deepest statements of all: the innermost is a read without a value, or no return, or a return in a loop.
+fn deepest(g: &mut Group) {
+    let left = |inner| shapes::deepest(inner, |s| seq(s, nop()));
+    let right = |inner| shapes::deepest(inner, |s| seq(nop(), s));
+    let whiles = |inner| shapes::deepest(inner, |s| while_do(boolean(true), s));
+    g.refused("64 decls over 2,015 seqs left over a read", left(ret(var(0))), 13, 2);
+    g.refused("64 decls over 2,015 seqs right over a read", right(ret(var(0))), 13, 2017);
+    g.refused("64 decls over 2,015 whiles over a read", whiles(ret(var(63))), 13, 2017);
+    g.refused("64 decls over 2,015 seqs left without a return", left(discard(int(0))), 14, 1);
+    g.refused("64 decls over 2,015 seqs right without a return", right(discard(int(0))), 14, 1);
+    g.refused("64 decls over 2,015 whiles", whiles(ret(int(0))), 14, 1);
 }
 
 /// Deep trees that read a variable without a value.
