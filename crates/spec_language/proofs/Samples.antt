@@ -115,6 +115,9 @@ rows =
     -- both branches assign
     row (alone 1 10 (node 1 0 1 1 ++ node 0 0 1 1 ++ node 8 0 0 2 ++ node 0 0 2 1 ++ node 8 0 0 2 ++ node 10 0 0 6 ++ node 2 0 0 1 ++ node 12 0 0 2 ++ node 7 0 0 9 ++ node 9 1 0 10)) accepted
     ∷
+    -- one branch assigns, and the variable is read after the if
+    row (alone 1 9 (node 1 0 1 1 ++ node 0 0 1 1 ++ node 8 0 0 2 ++ node 6 0 0 1 ++ node 10 0 0 5 ++ node 2 0 0 1 ++ node 12 0 0 2 ++ node 7 0 0 8 ++ node 9 1 0 9)) (refused 13 7 0)
+    ∷
     -- while(true, return(1))
     row (alone 0 4 (node 1 0 1 1 ++ node 0 0 1 1 ++ node 12 0 0 2 ++ node 11 0 0 4)) (refused 14 1 0)
     ∷

@@ -8,7 +8,7 @@ use native.Mathlib.Omega.{arith}
 use native.Mathlib.Nat.{mod-lt, zero-lt-suc, not-suc-le-zero}
 use lib.Dec.{eqb, ltb}
 use lib.ListN.{length}
-use borrow.Author.Tests.{eqb-true, ne-eqb, not-false, ltb-false, eqb-false}
+use borrow.Author.Tests.{eqb-true, ne-eqb, not-false, le-ltb, ltb-false, eqb-false}
 use Rattle.varset.specs.Lowest.{pick}
 use Rattle.records.specs.Fields.{functions, resultOf, paramsOf, varsOf, maskOf, countOf, kindAt, aAt, bAt, sizeAt}
 use Rattle.records.specs.Parts.{partOf}
@@ -188,6 +188,11 @@ module _ (s : List ℕ) (f : ℕ) (t : List ℕ) (n i : ℕ) where
   pub operator-gives : kindAt t i ≡ 3 → typeAt s f t n i ≡ operatorType (aAt t i)
   unfolding typeAt typesOf
   operator-gives e = rw e
+
+  -- operators "10 to 15 give bool"
+  pub comparison-gives : kindAt t i ≡ 3 → 10 ≤ aAt t i → typeAt s f t n i ≡ 2
+  unfolding typeAt typesOf operatorType
+  comparison-gives e h = rw (e, le-ltb (aAt t i) 10 h)
 
   pub and-gives : kindAt t i ≡ 4 → typeAt s f t n i ≡ 2
   unfolding typeAt typesOf

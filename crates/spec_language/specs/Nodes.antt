@@ -42,8 +42,8 @@ total size (c ∷ cs) = size c + total size cs
 -- 8: is the size 1 plus the children's sizes, are the children among the i nodes before it in the part, and is the last size n?
 unfoldable pub sizeOk : List ℕ → ℕ → ℕ → Bool
 sizeOk t n i =
-    let below = total (sizeAt t) (children t i) in
-    eqb (sizeAt t i) (1 + below) && (leb below i && (not (eqb (1 + i) n) || eqb (sizeAt t i) n))
+    let childrenSize = total (sizeAt t) (children t i) in
+    eqb (sizeAt t i) (1 + childrenSize) && (leb childrenSize i && (not (eqb (1 + i) n) || eqb (sizeAt t i) n))
 
 -- node i is one of these children, the last first, of a node of that kind, and of the other sort than its place wants
 unfoldable pub wrongChild : List ℕ → ℕ → List ℕ → ℕ → Bool

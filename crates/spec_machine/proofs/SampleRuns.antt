@@ -3,7 +3,7 @@ use mathlib.Core.Path.{_≡_, refl}
 use mathlib.Core.Bool.{true}
 use mathlib.Core.Option.{some}
 use mathlib.Core.List.{List, [], _∷_, _++_, map}
-use Prim.Native.Nat.{ℕ}
+use Prim.Native.Nat.{ℕ, _+_, _*_}
 use Rattle.varset.specs.Lowest.{lowest}
 use Rattle.varset.specs.Sets.{has, none, with, without, both, either, less, below}
 use Rattle.records.specs.Bytes.{u16At, u32At}
@@ -21,6 +21,7 @@ use Rattle.arith.specs.Operators as operators
 use Rattle.spec_machine.specs.File.{backwards, kids, andForm, looks, lookAt, refAt, formOf, formAt, ifForm, seqForm, seeAt, unrolled, looped, stmtAt, typesFrom, funOf, programOf}
 use Rattle.spec_machine.specs.Values.{nothing, truth, result}
 use Rattle.spec_machine.specs.Machine.{arith, main, emptyEnv}
+use Rattle.spec_machine.specs.Fit.{callerLimit}
 use Rattle.spec_machine.specs.Run.{Outcome, raised, Ran, runOf, lookUp}
 use Rattle.spec_machine.proofs.SampleFiles.{sample}
 
@@ -40,6 +41,10 @@ again = header 1 24 ++ function 1 0 2 0 24 ++ node 0 0 0 1 ++ node 8 0 0 2 ++ no
 abbrev restored : List ℕ
 restored = header 2 16 ++ function 1 0 1 0 9 ++ function 1 1 1 0 7 ++ node 0 0 1 1 ++ node 8 0 0 2 ++ node 0 0 4 1 ++ node 5 1 1 2 ++ node 2 0 0 1 ++ node 3 0 0 4 ++ node 12 0 0 5 ++ node 7 0 0 8 ++ node 9 1 0 9 ++ node 2 0 0 1 ++ node 0 0 1 1 ++ node 3 0 0 3 ++ node 8 0 0 4 ++ node 2 0 0 1 ++ node 12 0 0 2 ++ node 7 0 0 7
 
+-- return(f1()), f1: return(f1()), two steps a call
+abbrev endless : List ℕ
+endless = header 2 4 ++ function 1 0 0 0 2 ++ function 1 0 0 0 2 ++ node 5 0 1 1 ++ node 12 0 0 2 ++ node 5 0 1 1 ++ node 12 0 0 2
+
 -- a file, an allowance, and the outcome and steps of its run
 pub data Row : Type 0 where
   row : List ℕ → ℕ → Outcome → ℕ → Row
@@ -57,17 +62,27 @@ expected (row s a o k) = report o k
 abbrev ran : Row → Report
 ran (row s a o k) = reported (runOf (programOf s) a (main emptyEnv))
 
--- each allowance is used up: the last step that it allows reaches the end
-abbrev rows : List Row
-rows =
-    row sample 56 (Outcome.value 3) 56 ∷ row short 8 (Outcome.value 2) 8 ∷ row long 8 (raised arith) 8 ∷ row again 69 (Outcome.value 2) 69 ∷
-    row restored 26 (Outcome.value 6) 26 ∷
-    []
+-- the runs report what their rows say
+abbrev Right : List Row → Type 0
+Right rows = map ran rows ≡ map expected rows
+
+-- each allowance is used up: the last step that it allows reaches the end, or the state whose next one passes a limit
+record Runs : Type 0 where
+  sides : Right (row short 8 (Outcome.value 2) 8 ∷ row long 8 (raised arith) 8 ∷ [])
+  loops : Right (row sample 56 (Outcome.value 3) 56 ∷ row again 69 (Outcome.value 2) 69 ∷ [])
+  calls : Right (row restored 26 (Outcome.value 6) 26 ∷ [])
+  limits : Right (row endless (2 * callerLimit) Outcome.Spent (2 * callerLimit) ∷ row endless (1 + 2 * callerLimit) Outcome.Full (2 * callerLimit) ∷ [])
 
 -- all runs
-runs : map ran rows ≡ map expected rows
+runs : Runs
 unfolding lowest has none with without both either less below u16At u32At markAt functions nodes resultOf paramsOf varsOf maskOf countOf kindAt aAt bAt sizeAt sumOf startOf partOf firstOf shift orElse firstIn unless arities arityOf arityAt walk children prior last shapes shapeAt readsFrom readsOf grow statementIn statementAt declares leaves missing lacks returns declaresAt declCount declOf under usesVariable paramType varType operatorType typesOf typeAt condition wantsOf wantAt suits agree ints.int ints.wrap operators.addOf operators.subOf operators.mulOf operators.quotOf operators.remOf operators.shlOf operators.shrOf operators.andOf operators.orOf operators.xorOf operators.ltOf operators.leOf operators.gtOf operators.geOf operators.eqOf operators.neOf operators.noQuotient operators.divided operators.shifted operators.results operators.applied backwards kids andForm looks lookAt refAt formOf formAt ifForm seqForm seeAt unrolled looped stmtAt typesFrom funOf programOf result runOf
-runs = refl
+runs =
+    record {
+      sides = refl;
+      loops = refl;
+      calls = refl;
+      limits = refl;
+    }
 
 -- a variable keeps its value after its decl is over, until the decl runs again
 declared-again : (lookUp (runOf (programOf again) 42 (main emptyEnv) .state) 1 ≡ some (truth true))

@@ -265,10 +265,33 @@ others =
     row stale (main-at (runs 8) (int 5 ∷ []) (after 10 ∷ [])) true ∷ row stale (main-at (exec (ifOf 8)) (int 5 ∷ []) (after 10 ∷ [])) false ∷
     []
 
-abbrev rows : List Row
-rows = ends ++ activations ++ controls ++ frames ++ callers ++ flow ++ returning ++ limits ++ others
+-- the states are fit, or not, as their rows say
+abbrev Right : List Row → Type 0
+Right rows = map (λ r. fit (programOf (fileOf r)) (stateOf r)) rows ≡ map verdictOf rows
+
+record Samples : Type 0 where
+  right-ends : Right ends
+  right-activations : Right activations
+  right-controls : Right controls
+  right-frames : Right frames
+  right-callers : Right callers
+  right-flow : Right flow
+  right-returning : Right returning
+  right-limits : Right limits
+  right-others : Right others
 
 -- all rows
-samples : map (λ r. fit (programOf (fileOf r)) (stateOf r)) rows ≡ map verdictOf rows
+samples : Samples
 unfolding none with without both either less u16At u32At functions resultOf paramsOf varsOf maskOf countOf kindAt aAt bAt sizeAt sumOf startOf partOf orElse prior last shapes shapeAt readsFrom readsOf grow statementIn statementAt declares leaves missing lacks returns declaresAt declOf paramType varType looks lookAt formOf formAt ifForm seqForm seeAt unrolled looped stmtAt typesFrom funOf programOf
-samples = refl
+samples =
+    record {
+      right-ends = refl;
+      right-activations = refl;
+      right-controls = refl;
+      right-frames = refl;
+      right-callers = refl;
+      right-flow = refl;
+      right-returning = refl;
+      right-limits = refl;
+      right-others = refl;
+    }
