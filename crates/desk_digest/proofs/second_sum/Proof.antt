@@ -1,0 +1,29 @@
+use Rattle.desk_digest.specs.Sha256.{T2}
+use borrow.Author.Needs.{needs}
+use Rattle.desk_digest.proofs.second_sum.Statement.{statement}
+use Rattle.desk_digest.proofs.second_sum.Tie as tie
+use Rattle.desk_digest.proofs.second_sum.Reads as reads
+use Rattle.desk_digest.proofs.second_sum.Lts as lts
+use Rattle.desk_digest.proofs.maj.Reads as maj-reads
+use Rattle.desk_digest.proofs.plus.Reads as plus-reads
+use Rattle.desk_digest.proofs.sum0.Reads as sum0-reads
+
+-- src/lib.rt:105:10
+sum0-requires : tie.Need-sum0-requires
+sum0-requires c κs = search needs
+
+-- src/lib.rt:105:21
+maj-requires : tie.Need-maj-requires
+maj-requires c κs = search needs
+
+-- src/lib.rt:105:5
+plus-requires : tie.Need-plus-requires
+plus-requires c κs = search needs
+
+-- src/lib.rt:102:1
+returns : tie.Need-returns
+unfolding T2
+returns c = rw (c .plus .ensures, c .before .maj .ensures, c .before .before .sum0 .ensures)
+
+pub second-sum-spec : {M : Type 1} → statement M
+second-sum-spec = tie.close (tie.spec sum0-requires maj-requires plus-requires returns)
