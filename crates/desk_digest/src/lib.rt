@@ -5,7 +5,8 @@ ghost use lib.ListN.{length, getD};
 ghost use Rattle.desk_digest.specs.Words.{plus, rotr, Ch, Maj, Σ0, Σ1, σ0, σ1};
 ghost use Rattle.desk_digest.specs.Constants.{constants, initial};
 ghost use Rattle.desk_digest.specs.Padding.{bigEndian, padded};
-ghost use Rattle.desk_digest.specs.Sha256.{puts, wordAt, mixed, scheduleWord, schedule, T1, T2, round, rounds, sums, compress, hash, sha256};
+ghost use Rattle.desk_digest.specs.Sha256.{wordAt, mixed, scheduleWord, schedule, T1, T2, round, rounds, sums, compress, hash, bytesOf, sha256};
+ghost use Rattle.words.specs.Blocks.{puts};
 
 // The constants K_0 to K_63.
 const K: [u32; 64] = [
@@ -145,4 +146,182 @@ fn constant(t: usize) -> u32
     ensures { λ r. ⌜ r ≡ getD constants t 0 ⌝ }
 {
     K[t]
+}
+
+// The sixty-four rounds.
+fn rounds(s: Eight, w: &[u32; 64]) -> Eight
+    ensures { λ r. ⌜ r ≡ rounds s (now (w .entry)) 64 ⌝ }
+{
+    let mut turned = s;
+    let mut t = 0;
+    while t < 64 {
+        let k = constant(t);
+        turned = round(turned, k, w[t]);
+        t += 1;
+    }
+    turned
+}
+
+// The next hash value, of that before it and the schedule of a block.
+fn compress(s: Eight, w: &[u32; 64]) -> Eight
+    ensures { λ r. ⌜ r ≡ compress s (now (w .entry)) ⌝ }
+{
+    sums(rounds(s, w), s)
+}
+
+// The byte at j of the eight that hold the number of bits in n bytes.
+fn length_byte(n: usize, j: usize) -> u8
+    requires { ⌜ j < 8 ⌝ }
+    ensures { λ r. ⌜ r ≡ getD (bigEndian 8 (n * 8)) j 0 ⌝ }
+{
+    let bits = n << 3;
+    ((bits >> (56 - 8 * j)) % 256) as u8
+}
+
+// The byte at i of the padded message.
+fn padded_byte(bytes: &[u8], i: usize) -> u8
+    requires { ⌜ i < length (padded (now bytes)) ⌝ }
+    ensures { λ r. ⌜ r ≡ getD (padded (now (bytes .entry))) i 0 ⌝ }
+{
+    let n = bytes.len();
+    if i < n {
+        return bytes[i];
+    }
+    if i == n {
+        return 128;
+    }
+    let last = (n + 72) / 64 * 64 - 8;
+    if i < last {
+        return 0;
+    }
+    length_byte(n, i - last)
+}
+
+// A byte as a word.
+fn wide(x: u8) -> u32
+    ensures { λ r. ⌜ (r ≡ x) × (r < 256) ⌝ }
+{
+    x as u32
+}
+
+// The word at a place of the padded message.
+fn word_at(bytes: &[u8], at: usize) -> u32
+    requires { ⌜ at + 4 ≤ length (padded (now bytes)) ⌝ }
+    ensures { λ r. ⌜ r ≡ wordAt (padded (now (bytes .entry))) at ⌝ }
+{
+    let b0 = wide(padded_byte(bytes, at));
+    let b1 = wide(padded_byte(bytes, at + 1));
+    let b2 = wide(padded_byte(bytes, at + 2));
+    let b3 = wide(padded_byte(bytes, at + 3));
+    ((b0 * 256 + b1) * 256 + b2) * 256 + b3
+}
+
+// The sum of four words.
+fn sum_of_four(x: u32, y: u32, z: u32, u: u32) -> u32
+    ensures { λ r. ⌜ r ≡ (x + y + z + u) % 2 ^ 32 ⌝ }
+{
+    let sum = x as u64 + y as u64 + z as u64 + u as u64;
+    (sum % 4294967296) as u32
+}
+
+// W_t from t = 16 on, of the words before it.
+fn mixed(w: &[u32; 64], t: usize) -> u32
+    requires { ⌜ (16 ≤ t) × (t < 64) ⌝ }
+    ensures { λ r. ⌜ r ≡ mixed (now (w .entry)) t ⌝ }
+{
+    let x = sigma1(w[t - 2]);
+    let y = sigma0(w[t - 15]);
+    sum_of_four(x, w[t - 7], y, w[t - 16])
+}
+
+// W_t of the block at a place, of the words before it.
+fn schedule_word(bytes: &[u8], at: usize, w: &[u32; 64], t: usize) -> u32
+    requires { ⌜ (at + 64 ≤ length (padded (now bytes))) × (t < 64) ⌝ }
+    ensures { λ r. ⌜ r ≡ scheduleWord (padded (now (bytes .entry))) at (now (w .entry)) t ⌝ }
+{
+    if t < 16 {
+        return word_at(bytes, at + 4 * t);
+    }
+    mixed(w, t)
+}
+
+// The message schedule of the block at a place.
+fn schedule(bytes: &[u8], at: usize) -> [u32; 64]
+    requires { ⌜ at + 64 ≤ length (padded (now bytes)) ⌝ }
+    ensures { λ r. ⌜ r ≡ schedule (padded (now (bytes .entry))) at 64 ⌝ }
+{
+    let mut w = [0u32; 64];
+    let mut t = 0;
+    while t < 64 {
+        let x = schedule_word(bytes, at, &w, t);
+        w[t] = x;
+        t += 1;
+    }
+    w
+}
+
+// The initial hash value.
+fn initial() -> Eight
+    ensures { λ r. ⌜ r ≡ initial ⌝ }
+{
+    Eight {
+        a: 0x6a09e667,
+        b: 0xbb67ae85,
+        c: 0x3c6ef372,
+        d: 0xa54ff53a,
+        e: 0x510e527f,
+        f: 0x9b05688c,
+        g: 0x1f83d9ab,
+        h: 0x5be0cd19,
+    }
+}
+
+// The last hash value of the padded message.
+fn hash(bytes: &[u8]) -> Eight
+    ensures { λ r. ⌜ r ≡ hash (padded (now (bytes .entry))) (length (padded (now (bytes .entry))) / 64) ⌝ }
+{
+    let count = (bytes.len() + 72) / 64;
+    let mut s = initial();
+    let mut i = 0;
+    while i < count {
+        let w = schedule(bytes, 64 * i);
+        s = compress(s, &w);
+        i += 1;
+    }
+    s
+}
+
+// Puts the four bytes of a word at a place.
+fn put_word(out: &mut [u8; 32], at: usize, w: u32)
+    requires { ⌜ at + 4 ≤ 32 ⌝ }
+    ensures { λ _. ⌜ now (out .exit) ≡ puts (now (out .entry)) at 0 (bigEndian 4 w) ⌝ }
+{
+    out[at + 0] = ((w >> 24) % 256) as u8;
+    out[at + 1] = ((w >> 16) % 256) as u8;
+    out[at + 2] = ((w >> 8) % 256) as u8;
+    out[at + 3] = (w % 256) as u8;
+}
+
+// The bytes of eight words.
+fn bytes_of(s: Eight) -> [u8; 32]
+    ensures { λ r. ⌜ r ≡ bytesOf s ⌝ }
+{
+    let mut out = [0u8; 32];
+    put_word(&mut out, 0, s.a);
+    put_word(&mut out, 4, s.b);
+    put_word(&mut out, 8, s.c);
+    put_word(&mut out, 12, s.d);
+    put_word(&mut out, 16, s.e);
+    put_word(&mut out, 20, s.f);
+    put_word(&mut out, 24, s.g);
+    put_word(&mut out, 28, s.h);
+    out
+}
+
+// The digest of the bytes.
+pub fn sha256(bytes: &[u8]) -> [u8; 32]
+    ensures { λ r. ⌜ r ≡ sha256 (now (bytes .entry)) ⌝ }
+{
+    let s = hash(bytes);
+    bytes_of(s)
 }

@@ -1,0 +1,2 @@
+pub mod Paddings
+pub mod Schedules
