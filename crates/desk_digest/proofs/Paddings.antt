@@ -12,6 +12,16 @@ unfolding bigEndian
 length-bytes zero n = refl
 length-bytes (suc k) n = ap suc (length-bytes k n)
 
+-- with the one bit's byte and the zeros the message is 56 bytes modulo 64
+pub zeros-fit : (n : ℕ) → (n + 1 + zeros n) % 64 ≡ 56
+unfolding zeros
+zeros-fit n = omega arith
+
+-- and with no fewer zeros
+pub zeros-least : (n k : ℕ) → (n + 1 + k) % 64 ≡ 56 → zeros n ≤ k
+unfolding zeros
+zeros-least n k e = omega arith
+
 -- the place of the length, 8 bytes before the end
 before-length : (n : ℕ) → n + suc (zeros n) ≡ (n + 72) / 64 * 64 - 8
 unfolding zeros

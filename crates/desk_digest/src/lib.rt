@@ -1,24 +1,14 @@
 // SHA-256, by which the release desk names the bytes that it checked.
-ghost use mathlib.Core.Path.{_≡_};
-ghost use Prim.Native.Nat.{_+_, _*_, _/_, _%_, _^_, _≤_, _<_};
-ghost use lib.ListN.{length, getD};
-ghost use Rattle.desk_digest.specs.Words.{plus, rotr, Ch, Maj, Σ0, Σ1, σ0, σ1};
-ghost use Rattle.desk_digest.specs.Constants.{constants, initial};
-ghost use Rattle.desk_digest.specs.Padding.{bigEndian, padded};
-ghost use Rattle.desk_digest.specs.Sha256.{wordAt, mixed, scheduleWord, schedule, T1, T2, round, rounds, sums, compress, hash, bytesOf, sha256};
-ghost use Rattle.words.specs.Blocks.{puts};
+mod constants;
+mod padding;
 
-// The constants K_0 to K_63.
-const K: [u32; 64] = [
-    0x428a2f98, 0x71374491, 0xb5c0fbcf, 0xe9b5dba5, 0x3956c25b, 0x59f111f1, 0x923f82a4, 0xab1c5ed5,
-    0xd807aa98, 0x12835b01, 0x243185be, 0x550c7dc3, 0x72be5d74, 0x80deb1fe, 0x9bdc06a7, 0xc19bf174,
-    0xe49b69c1, 0xefbe4786, 0x0fc19dc6, 0x240ca1cc, 0x2de92c6f, 0x4a7484aa, 0x5cb0a9dc, 0x76f988da,
-    0x983e5152, 0xa831c66d, 0xb00327c8, 0xbf597fc7, 0xc6e00bf3, 0xd5a79147, 0x06ca6351, 0x14292967,
-    0x27b70a85, 0x2e1b2138, 0x4d2c6dfc, 0x53380d13, 0x650a7354, 0x766a0abb, 0x81c2c92e, 0x92722c85,
-    0xa2bfe8a1, 0xa81a664b, 0xc24b8b70, 0xc76c51a3, 0xd192e819, 0xd6990624, 0xf40e3585, 0x106aa070,
-    0x19a4c116, 0x1e376c08, 0x2748774c, 0x34b0bcb5, 0x391c0cb3, 0x4ed8aa4a, 0x5b9cca4f, 0x682e6ff3,
-    0x748f82ee, 0x78a5636f, 0x84c87814, 0x8cc70208, 0x90befffa, 0xa4506ceb, 0xbef9a3f7, 0xc67178f2,
-];
+ghost use mathlib.Core.Path.{_≡_};
+ghost use Prim.Native.Nat.{_+_, _/_, _%_, _^_, _≤_, _<_};
+ghost use lib.ListN.{length};
+ghost use Rattle.words.specs.Blocks.{puts};
+ghost use Rattle.desk_digest.specs.Words.{plus, rotr, Ch, Maj, Σ0, Σ1, σ0, σ1};
+ghost use Rattle.desk_digest.specs.Padding.{bigEndian, padded};
+ghost use Rattle.desk_digest.specs.Sha256.{mixed, scheduleWord, schedule, T1, T2, round, rounds, sums, compress, hash, bytesOf, sha256};
 
 // Eight words: the working variables a to h, and a hash value.
 pub struct Eight {
@@ -45,6 +35,14 @@ fn plus(x: u32, y: u32) -> u32
     ensures { λ r. ⌜ r ≡ plus x y ⌝ }
 {
     std::num::wrapping_add_u32(x, y)
+}
+
+// The sum of four words.
+fn sum_of_four(x: u32, y: u32, z: u32, u: u32) -> u32
+    ensures { λ r. ⌜ r ≡ (x + y + z + u) % 2 ^ 32 ⌝ }
+{
+    let sum = x as u64 + y as u64 + z as u64 + u as u64;
+    (sum % 4294967296) as u32
 }
 
 // The choice of y or z by x, bit by bit.
@@ -89,6 +87,42 @@ fn sigma1(x: u32) -> u32
     rotr(x, 17) ^ rotr(x, 19) ^ (x >> 10)
 }
 
+// W_t from t = 16 on, of the words before it.
+fn mixed(w: &[u32; 64], t: usize) -> u32
+    requires { ⌜ (16 ≤ t) × (t < 64) ⌝ }
+    ensures { λ r. ⌜ r ≡ mixed (now (w .entry)) t ⌝ }
+{
+    let x = sigma1(w[t - 2]);
+    let y = sigma0(w[t - 15]);
+    sum_of_four(x, w[t - 7], y, w[t - 16])
+}
+
+// W_t of the block at a place, of the words before it.
+fn schedule_word(bytes: &[u8], at: usize, w: &[u32; 64], t: usize) -> u32
+    requires { ⌜ (at + 64 ≤ length (padded (now bytes))) × (t < 64) ⌝ }
+    ensures { λ r. ⌜ r ≡ scheduleWord (padded (now (bytes .entry))) at (now (w .entry)) t ⌝ }
+{
+    if t < 16 {
+        return crate::padding::word_at(bytes, at + 4 * t);
+    }
+    mixed(w, t)
+}
+
+// The message schedule of the block at a place.
+fn schedule(bytes: &[u8], at: usize) -> [u32; 64]
+    requires { ⌜ at + 64 ≤ length (padded (now bytes)) ⌝ }
+    ensures { λ r. ⌜ r ≡ schedule (padded (now (bytes .entry))) at 64 ⌝ }
+{
+    let mut w = [0u32; 64];
+    let mut t = 0;
+    while t < 64 {
+        let x = schedule_word(bytes, at, &w, t);
+        w[t] = x;
+        t += 1;
+    }
+    w
+}
+
 // T1 of a round.
 fn first_sum(s: Eight, k: u32, w: u32) -> u32
     ensures { λ r. ⌜ r ≡ T1 s k w ⌝ }
@@ -124,6 +158,20 @@ fn round(s: Eight, k: u32, w: u32) -> Eight
     }
 }
 
+// The sixty-four rounds.
+fn rounds(s: Eight, w: &[u32; 64]) -> Eight
+    ensures { λ r. ⌜ r ≡ rounds s (now (w .entry)) 64 ⌝ }
+{
+    let mut turned = s;
+    let mut t = 0;
+    while t < 64 {
+        let k = crate::constants::constant(t);
+        turned = round(turned, k, w[t]);
+        t += 1;
+    }
+    turned
+}
+
 // The sums of the words, one by one.
 fn sums(x: Eight, y: Eight) -> Eight
     ensures { λ r. ⌜ r ≡ sums x y ⌝ }
@@ -140,28 +188,6 @@ fn sums(x: Eight, y: Eight) -> Eight
     }
 }
 
-// The constant of round t.
-fn constant(t: usize) -> u32
-    requires { ⌜ t < 64 ⌝ }
-    ensures { λ r. ⌜ r ≡ getD constants t 0 ⌝ }
-{
-    K[t]
-}
-
-// The sixty-four rounds.
-fn rounds(s: Eight, w: &[u32; 64]) -> Eight
-    ensures { λ r. ⌜ r ≡ rounds s (now (w .entry)) 64 ⌝ }
-{
-    let mut turned = s;
-    let mut t = 0;
-    while t < 64 {
-        let k = constant(t);
-        turned = round(turned, k, w[t]);
-        t += 1;
-    }
-    turned
-}
-
 // The next hash value, of that before it and the schedule of a block.
 fn compress(s: Eight, w: &[u32; 64]) -> Eight
     ensures { λ r. ⌜ r ≡ compress s (now (w .entry)) ⌝ }
@@ -169,119 +195,12 @@ fn compress(s: Eight, w: &[u32; 64]) -> Eight
     sums(rounds(s, w), s)
 }
 
-// The byte at j of the eight that hold the number of bits in n bytes.
-fn length_byte(n: usize, j: usize) -> u8
-    requires { ⌜ j < 8 ⌝ }
-    ensures { λ r. ⌜ r ≡ getD (bigEndian 8 (n * 8)) j 0 ⌝ }
-{
-    let bits = n << 3;
-    ((bits >> (56 - 8 * j)) % 256) as u8
-}
-
-// The byte at i of the padded message.
-fn padded_byte(bytes: &[u8], i: usize) -> u8
-    requires { ⌜ i < length (padded (now bytes)) ⌝ }
-    ensures { λ r. ⌜ r ≡ getD (padded (now (bytes .entry))) i 0 ⌝ }
-{
-    let n = bytes.len();
-    if i < n {
-        return bytes[i];
-    }
-    if i == n {
-        return 128;
-    }
-    let last = (n + 72) / 64 * 64 - 8;
-    if i < last {
-        return 0;
-    }
-    length_byte(n, i - last)
-}
-
-// A byte as a word.
-fn wide(x: u8) -> u32
-    ensures { λ r. ⌜ (r ≡ x) × (r < 256) ⌝ }
-{
-    x as u32
-}
-
-// The word at a place of the padded message.
-fn word_at(bytes: &[u8], at: usize) -> u32
-    requires { ⌜ at + 4 ≤ length (padded (now bytes)) ⌝ }
-    ensures { λ r. ⌜ r ≡ wordAt (padded (now (bytes .entry))) at ⌝ }
-{
-    let b0 = wide(padded_byte(bytes, at));
-    let b1 = wide(padded_byte(bytes, at + 1));
-    let b2 = wide(padded_byte(bytes, at + 2));
-    let b3 = wide(padded_byte(bytes, at + 3));
-    ((b0 * 256 + b1) * 256 + b2) * 256 + b3
-}
-
-// The sum of four words.
-fn sum_of_four(x: u32, y: u32, z: u32, u: u32) -> u32
-    ensures { λ r. ⌜ r ≡ (x + y + z + u) % 2 ^ 32 ⌝ }
-{
-    let sum = x as u64 + y as u64 + z as u64 + u as u64;
-    (sum % 4294967296) as u32
-}
-
-// W_t from t = 16 on, of the words before it.
-fn mixed(w: &[u32; 64], t: usize) -> u32
-    requires { ⌜ (16 ≤ t) × (t < 64) ⌝ }
-    ensures { λ r. ⌜ r ≡ mixed (now (w .entry)) t ⌝ }
-{
-    let x = sigma1(w[t - 2]);
-    let y = sigma0(w[t - 15]);
-    sum_of_four(x, w[t - 7], y, w[t - 16])
-}
-
-// W_t of the block at a place, of the words before it.
-fn schedule_word(bytes: &[u8], at: usize, w: &[u32; 64], t: usize) -> u32
-    requires { ⌜ (at + 64 ≤ length (padded (now bytes))) × (t < 64) ⌝ }
-    ensures { λ r. ⌜ r ≡ scheduleWord (padded (now (bytes .entry))) at (now (w .entry)) t ⌝ }
-{
-    if t < 16 {
-        return word_at(bytes, at + 4 * t);
-    }
-    mixed(w, t)
-}
-
-// The message schedule of the block at a place.
-fn schedule(bytes: &[u8], at: usize) -> [u32; 64]
-    requires { ⌜ at + 64 ≤ length (padded (now bytes)) ⌝ }
-    ensures { λ r. ⌜ r ≡ schedule (padded (now (bytes .entry))) at 64 ⌝ }
-{
-    let mut w = [0u32; 64];
-    let mut t = 0;
-    while t < 64 {
-        let x = schedule_word(bytes, at, &w, t);
-        w[t] = x;
-        t += 1;
-    }
-    w
-}
-
-// The initial hash value.
-fn initial() -> Eight
-    ensures { λ r. ⌜ r ≡ initial ⌝ }
-{
-    Eight {
-        a: 0x6a09e667,
-        b: 0xbb67ae85,
-        c: 0x3c6ef372,
-        d: 0xa54ff53a,
-        e: 0x510e527f,
-        f: 0x9b05688c,
-        g: 0x1f83d9ab,
-        h: 0x5be0cd19,
-    }
-}
-
 // The last hash value of the padded message.
 fn hash(bytes: &[u8]) -> Eight
     ensures { λ r. ⌜ r ≡ hash (padded (now (bytes .entry))) (length (padded (now (bytes .entry))) / 64) ⌝ }
 {
     let count = (bytes.len() + 72) / 64;
-    let mut s = initial();
+    let mut s = crate::constants::initial();
     let mut i = 0;
     while i < count {
         let w = schedule(bytes, 64 * i);

@@ -8,39 +8,30 @@ use Rattle.desk_digest.proofs.bytes_of.Reads as reads
 use Rattle.desk_digest.proofs.bytes_of.Lts as lts
 use Rattle.desk_digest.proofs.put_word.Reads as put-word-reads
 
--- src/lib.rt:310:5
 put-word-requires : tie.Need-put-word-requires
 put-word-requires c κs = search needs
 
--- src/lib.rt:311:5
 put-word-requires-2 : tie.Need-put-word-requires-2
 put-word-requires-2 c κs = search needs
 
--- src/lib.rt:312:5
 put-word-requires-3 : tie.Need-put-word-requires-3
 put-word-requires-3 c κs = search needs
 
--- src/lib.rt:313:5
 put-word-requires-4 : tie.Need-put-word-requires-4
 put-word-requires-4 c κs = search needs
 
--- src/lib.rt:314:5
 put-word-requires-5 : tie.Need-put-word-requires-5
 put-word-requires-5 c κs = search needs
 
--- src/lib.rt:315:5
 put-word-requires-6 : tie.Need-put-word-requires-6
 put-word-requires-6 c κs = search needs
 
--- src/lib.rt:316:5
 put-word-requires-7 : tie.Need-put-word-requires-7
 put-word-requires-7 c κs = search needs
 
--- src/lib.rt:317:5
 put-word-requires-8 : tie.Need-put-word-requires-8
 put-word-requires-8 c κs = search needs
 
--- src/lib.rt:306:1
 returns : tie.Need-returns
 unfolding bytesOf bigEndian
 returns c = c .put-word8 .ensures ∙ rw (c .before .before .put-word7 .ensures, c .before .before .before .before .put-word6 .ensures, c .before .before .before .before .before .before .put-word5 .ensures, c .before .before .before .before .before .before .before .before .put-word4 .ensures, c .before .before .before .before .before .before .before .before .before .before .put-word3 .ensures, c .before .before .before .before .before .before .before .before .before .before .before .before .put-word2 .ensures, c .before .before .before .before .before .before .before .before .before .before .before .before .before .before .put-word .ensures)

@@ -5,7 +5,6 @@ use Rattle.desk_digest.proofs.ch.Tie as tie
 use Rattle.desk_digest.proofs.ch.Reads as reads
 use Rattle.desk_digest.proofs.ch.Lts as lts
 
--- src/lib.rt:50:1
 returns : tie.Need-returns
 unfolding Ch complement
 returns c = refl

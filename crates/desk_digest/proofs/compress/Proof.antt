@@ -8,15 +8,12 @@ use Rattle.desk_digest.proofs.compress.Lts as lts
 use Rattle.desk_digest.proofs.rounds.Reads as rounds-reads
 use Rattle.desk_digest.proofs.sums.Reads as sums-reads
 
--- src/lib.rt:169:10
 rounds-requires : tie.Need-rounds-requires
 rounds-requires c κs = search needs
 
--- src/lib.rt:169:5
 sums-requires : tie.Need-sums-requires
 sums-requires c κs = search needs
 
--- src/lib.rt:166:1
 returns : tie.Need-returns
 unfolding compress
 returns c = c .sums .ensures ∙ rw (c .before .rounds .ensures)

@@ -7,47 +7,36 @@ use Rattle.desk_digest.proofs.first_sum.Lts as lts
 use Rattle.desk_digest.proofs.ch.Reads as ch-reads
 use Rattle.desk_digest.proofs.sum1.Reads as sum1-reads
 
--- src/lib.rt:95:9
 sum1-requires : tie.Need-sum1-requires
 sum1-requires c κs = search needs
 
--- src/lib.rt:96:9
 ch-requires : tie.Need-ch-requires
 ch-requires c κs = search needs
 
--- src/lib.rt:97:15
 cast-sum : tie.Need-cast-sum
 cast-sum c = search needs
 
--- src/lib.rt:97:28
 cast-sum-2 : tie.Need-cast-sum-2
 cast-sum-2 c = search needs
 
--- src/lib.rt:97:15
 add-sum : tie.Need-add-sum
 add-sum c = search needs
 
--- src/lib.rt:97:43
 cast-sum-3 : tie.Need-cast-sum-3
 cast-sum-3 c = search needs
 
--- src/lib.rt:97:15
 add-sum-2 : tie.Need-add-sum-2
 add-sum-2 c = search needs
 
--- src/lib.rt:97:15
 add-sum-3 : tie.Need-add-sum-3
 add-sum-3 c = search needs
 
--- src/lib.rt:97:15
 add-sum-4 : tie.Need-add-sum-4
 add-sum-4 c = search needs
 
--- src/lib.rt:98:5
 cast-result : tie.Need-cast-result
 cast-result c = search needs
 
--- src/lib.rt:92:1
 returns : tie.Need-returns
 unfolding T1
 returns c = rw (c .before .before .sum1 .ensures, c .before .ch .ensures)

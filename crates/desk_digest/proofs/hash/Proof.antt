@@ -12,7 +12,7 @@ use Rattle.desk_digest.proofs.hash.Tie as tie
 use Rattle.desk_digest.proofs.hash.Reads as reads
 use Rattle.desk_digest.proofs.hash.Lts as lts
 use Rattle.desk_digest.proofs.compress.Reads as compress-reads
-use Rattle.desk_digest.proofs.initial.Reads as initial-reads
+use Rattle.desk_digest.proofs.constants.initial.Reads as initial-reads
 use Rattle.desk_digest.proofs.schedule.Reads as schedule-reads
 
 abbrev Inv-loop : tie.InvT-loop
@@ -21,45 +21,35 @@ Inv-loop bytes count s₀ i₀ s i = (i ≤ count) × (s ≡ hash (padded bytes)
 abbrev μ-loop : tie.MeasureT-loop
 μ-loop bytes count s₀ i₀ s i = count - i
 
--- src/lib.rt:283:18
 add-count : tie.Need-add-count Inv-loop μ-loop
 add-count c = search needs
 
--- src/lib.rt:284:9
 initial-requires : tie.Need-initial-requires Inv-loop μ-loop
 initial-requires c κs = search needs
 
--- src/lib.rt:286:5
 loop-holds : tie.Need-loop-holds Inv-loop μ-loop
 unfolding hash
 loop-holds c = (search needs, c .initial .ensures)
 
--- src/lib.rt:287:33
 mul-schedule : tie.Need-mul-schedule Inv-loop μ-loop
 mul-schedule c = search needs
 
--- src/lib.rt:287:17
 schedule-requires : tie.Need-schedule-requires Inv-loop μ-loop
 schedule-requires c κs = omega (arith, padded-length (c .before .before .before .before .args .bytes .now))
 
--- src/lib.rt:288:9
 compress-requires : tie.Need-compress-requires Inv-loop μ-loop
 compress-requires c κs = search needs
 
--- src/lib.rt:289:9
 add-i : tie.Need-add-i Inv-loop μ-loop
 add-i c = search needs
 
--- src/lib.rt:286:5
 loop-less : tie.Need-loop-less Inv-loop μ-loop
 loop-less c = search needs
 
--- src/lib.rt:286:5
 loop-again : tie.Need-loop-again Inv-loop μ-loop
 unfolding hash
 loop-again c = (search needs, c .compress .ensures ∙ rw (c .before .before .schedule .ensures, c .before .before .before .before .loop .inv .1, add-one))
 
--- src/lib.rt:280:1
 returns : tie.Need-returns Inv-loop μ-loop
 returns c = let m = c .before .before .before .before .args .bytes .now in let e : c .before .loop .i ≡ length (padded m) / 64 = omega (arith, padded-length m) in c .before .loop .inv .1 ∙ ap (hash (padded m)) e
 

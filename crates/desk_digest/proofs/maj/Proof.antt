@@ -5,7 +5,6 @@ use Rattle.desk_digest.proofs.maj.Tie as tie
 use Rattle.desk_digest.proofs.maj.Reads as reads
 use Rattle.desk_digest.proofs.maj.Lts as lts
 
--- src/lib.rt:57:1
 returns : tie.Need-returns
 unfolding Maj
 returns c = refl

@@ -10,67 +10,51 @@ use Rattle.desk_digest.proofs.sigma0.Reads as sigma0-reads
 use Rattle.desk_digest.proofs.sigma1.Reads as sigma1-reads
 use Rattle.desk_digest.proofs.sum_of_four.Reads as sum-of-four-reads
 
--- src/lib.rt:231:22
 sub-sigma1 : tie.Need-sub-sigma1
 sub-sigma1 c = search needs
 
--- src/lib.rt:231:20
 mul-sigma1 : tie.Need-mul-sigma1
 mul-sigma1 c = search needs
 
--- src/lib.rt:231:20
 element-copy-out-sigma1 : tie.Need-element-copy-out-sigma1
 element-copy-out-sigma1 c = search needs
 
--- src/lib.rt:231:9
 sigma1-requires : tie.Need-sigma1-requires
 sigma1-requires c κs = search needs
 
--- src/lib.rt:232:22
 sub-sigma0 : tie.Need-sub-sigma0
 sub-sigma0 c = search needs
 
--- src/lib.rt:232:20
 mul-sigma0 : tie.Need-mul-sigma0
 mul-sigma0 c = search needs
 
--- src/lib.rt:232:20
 element-copy-out-sigma0 : tie.Need-element-copy-out-sigma0
 element-copy-out-sigma0 c = search needs
 
--- src/lib.rt:232:9
 sigma0-requires : tie.Need-sigma0-requires
 sigma0-requires c κs = search needs
 
--- src/lib.rt:233:22
 sub-sum-of-four : tie.Need-sub-sum-of-four
 sub-sum-of-four c = search needs
 
--- src/lib.rt:233:20
 mul-sum-of-four : tie.Need-mul-sum-of-four
 mul-sum-of-four c = search needs
 
--- src/lib.rt:233:20
 element-copy-out-sum-of-four : tie.Need-element-copy-out-sum-of-four
 element-copy-out-sum-of-four c = search needs
 
--- src/lib.rt:233:35
 sub-sum-of-four-2 : tie.Need-sub-sum-of-four-2
 sub-sum-of-four-2 c = search needs
 
--- src/lib.rt:233:33
 mul-sum-of-four-2 : tie.Need-mul-sum-of-four-2
 mul-sum-of-four-2 c = search needs
 
--- src/lib.rt:233:33
 element-copy-out-sum-of-four-2 : tie.Need-element-copy-out-sum-of-four-2
 element-copy-out-sum-of-four-2 c = search needs
 
--- src/lib.rt:233:5
 sum-of-four-requires : tie.Need-sum-of-four-requires
 sum-of-four-requires c κs = search needs
 
--- src/lib.rt:227:1
 returns : tie.Need-returns
 unfolding mixed
 returns c = c .sum-of-four .ensures ∙ rw (c .before .before .before .sigma0 .ensures, c .before .before .before .before .before .sigma1 .ensures)

@@ -6,11 +6,9 @@ use Rattle.desk_digest.proofs.plus.Reads as reads
 use Rattle.desk_digest.proofs.plus.Lts as lts
 use Rattle.std.proofs.num.wrapping_add_u32.Reads as wrapping-add-u32-reads
 
--- src/lib.rt:46:5
 wrapping-add-u32-requires : tie.Need-wrapping-add-u32-requires
 wrapping-add-u32-requires c κs = search needs
 
--- src/lib.rt:43:1
 returns : tie.Need-returns
 unfolding plus
 returns c = c .wrapping-add-u32 .ensures

@@ -7,55 +7,42 @@ use Rattle.desk_digest.proofs.put_word.Tie as tie
 use Rattle.desk_digest.proofs.put_word.Reads as reads
 use Rattle.desk_digest.proofs.put_word.Lts as lts
 
--- src/lib.rt:299:19
 cast-out : tie.Need-cast-out
 cast-out c = search needs
 
--- src/lib.rt:299:9
 add-out : tie.Need-add-out
 add-out c = search needs
 
--- src/lib.rt:299:5
 element-write-out : tie.Need-element-write-out
 element-write-out c = search needs
 
--- src/lib.rt:300:19
 cast-out-2 : tie.Need-cast-out-2
 cast-out-2 c = search needs
 
--- src/lib.rt:300:9
 add-out-2 : tie.Need-add-out-2
 add-out-2 c = search needs
 
--- src/lib.rt:300:5
 element-write-out-2 : tie.Need-element-write-out-2
 element-write-out-2 c = search needs
 
--- src/lib.rt:301:19
 cast-out-3 : tie.Need-cast-out-3
 cast-out-3 c = search needs
 
--- src/lib.rt:301:9
 add-out-3 : tie.Need-add-out-3
 add-out-3 c = search needs
 
--- src/lib.rt:301:5
 element-write-out-3 : tie.Need-element-write-out-3
 element-write-out-3 c = search needs
 
--- src/lib.rt:302:19
 cast-out-4 : tie.Need-cast-out-4
 cast-out-4 c = search needs
 
--- src/lib.rt:302:9
 add-out-4 : tie.Need-add-out-4
 add-out-4 c = search needs
 
--- src/lib.rt:302:5
 element-write-out-4 : tie.Need-element-write-out-4
 element-write-out-4 c = search needs
 
--- src/lib.rt:295:1
 returns : tie.Need-returns
 unfolding bigEndian
 returns c = simp div-one

@@ -6,19 +6,15 @@ use Rattle.desk_digest.proofs.rotr.Tie as tie
 use Rattle.desk_digest.proofs.rotr.Reads as reads
 use Rattle.desk_digest.proofs.rotr.Lts as lts
 
--- src/lib.rt:39:6
 shr-result : tie.Need-shr-result
 shr-result c = search needs
 
--- src/lib.rt:39:23
 sub-result : tie.Need-sub-result
 sub-result c = search needs
 
--- src/lib.rt:39:17
 shl-result : tie.Need-shl-result
 shl-result c = search needs
 
--- src/lib.rt:35:1
 returns : tie.Need-returns
 unfolding rotr
 returns c = refl

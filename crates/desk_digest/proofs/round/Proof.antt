@@ -8,23 +8,18 @@ use Rattle.desk_digest.proofs.first_sum.Reads as first-sum-reads
 use Rattle.desk_digest.proofs.plus.Reads as plus-reads
 use Rattle.desk_digest.proofs.second_sum.Reads as second-sum-reads
 
--- src/lib.rt:112:9
 first-sum-requires : tie.Need-first-sum-requires
 first-sum-requires c κs = search needs
 
--- src/lib.rt:113:9
 second-sum-requires : tie.Need-second-sum-requires
 second-sum-requires c κs = search needs
 
--- src/lib.rt:115:12
 plus-requires : tie.Need-plus-requires
 plus-requires c κs = search needs
 
--- src/lib.rt:119:12
 plus-requires-2 : tie.Need-plus-requires-2
 plus-requires-2 c κs = search needs
 
--- src/lib.rt:109:1
 returns : tie.Need-returns
 unfolding round turned
 returns c = cc

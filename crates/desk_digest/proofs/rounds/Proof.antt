@@ -8,7 +8,7 @@ use Rattle.desk_digest.proofs.rounds.Statement.{statement}
 use Rattle.desk_digest.proofs.rounds.Tie as tie
 use Rattle.desk_digest.proofs.rounds.Reads as reads
 use Rattle.desk_digest.proofs.rounds.Lts as lts
-use Rattle.desk_digest.proofs.constant.Reads as constant-reads
+use Rattle.desk_digest.proofs.constants.constant.Reads as constant-reads
 use Rattle.desk_digest.proofs.round.Reads as round-reads
 
 abbrev Inv-loop : tie.InvT-loop
@@ -17,41 +17,32 @@ Inv-loop w turned₀ t₀ turned t = (t ≤ 64) × (turned ≡ rounds turned₀ 
 abbrev μ-loop : tie.MeasureT-loop
 μ-loop w turned₀ t₀ turned t = 64 - t
 
--- src/lib.rt:156:5
 loop-holds : tie.Need-loop-holds Inv-loop μ-loop
 unfolding rounds
 loop-holds c = (search needs, refl)
 
--- src/lib.rt:157:13
 constant-requires : tie.Need-constant-requires Inv-loop μ-loop
 constant-requires c κs = search needs
 
--- src/lib.rt:158:35
 mul-round : tie.Need-mul-round Inv-loop μ-loop
 mul-round c = search needs
 
--- src/lib.rt:158:35
 element-copy-out-round : tie.Need-element-copy-out-round Inv-loop μ-loop
 element-copy-out-round c = search needs
 
--- src/lib.rt:158:9
 round-requires : tie.Need-round-requires Inv-loop μ-loop
 round-requires c κs = search needs
 
--- src/lib.rt:159:9
 add-t : tie.Need-add-t Inv-loop μ-loop
 add-t c = search needs
 
--- src/lib.rt:156:5
 loop-less : tie.Need-loop-less Inv-loop μ-loop
 loop-less c = search needs
 
--- src/lib.rt:156:5
 loop-again : tie.Need-loop-again Inv-loop μ-loop
 unfolding rounds
 loop-again c = (search needs, c .round .ensures ∙ rw (c .before .before .constant .ensures, c .before .before .before .before .loop .inv .1, add-one))
 
--- src/lib.rt:151:1
 returns : tie.Need-returns Inv-loop μ-loop
 returns c = let e : c .before .loop .t ≡ 64 = omega arith in c .before .loop .inv .1 ∙ ap (rounds (c .before .before .args .s) (c .before .before .args .w .now)) e
 

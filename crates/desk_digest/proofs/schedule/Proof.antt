@@ -19,36 +19,28 @@ Inv-loop bytes at w₀ t₀ w t = (t ≤ 64) × (length w ≡ 64) × (take t w �
 abbrev μ-loop : tie.MeasureT-loop
 μ-loop bytes at w₀ t₀ w t = 64 - t
 
--- src/lib.rt:247:5
 loop-holds : tie.Need-loop-holds Inv-loop μ-loop
 unfolding schedule
 loop-holds c = (search needs, refl, refl)
 
--- src/lib.rt:248:13
 schedule-word-requires : tie.Need-schedule-word-requires Inv-loop μ-loop
 schedule-word-requires c κs = search needs
 
--- src/lib.rt:249:9
 mul-w : tie.Need-mul-w Inv-loop μ-loop
 mul-w c = search needs
 
--- src/lib.rt:249:9
 array-write-w : tie.Need-array-write-w Inv-loop μ-loop
 array-write-w c = search needs
 
--- src/lib.rt:250:9
 add-t : tie.Need-add-t Inv-loop μ-loop
 add-t c = search needs
 
--- src/lib.rt:247:5
 loop-less : tie.Need-loop-less Inv-loop μ-loop
 loop-less c = search needs
 
--- src/lib.rt:247:5
 loop-again : tie.Need-loop-again Inv-loop μ-loop
 loop-again c = let b = c .before .before .before .loop in (search needs, simp length-set (b .inv .1), filled _ _ _ _ _ (omega (arith, b .inv .1)) (c .schedule-word .ensures) (b .inv .2))
 
--- src/lib.rt:241:1
 returns : tie.Need-returns Inv-loop μ-loop
 returns c = let b = c .before .loop in let e : b .t ≡ 64 = omega arith in sym (take-all (b .t) (b .w) (omega (arith, b .inv .1))) ∙ b .inv .2 ∙ ap (schedule (padded (c .before .before .before .args .bytes .now)) (c .before .before .before .args .at)) e
 

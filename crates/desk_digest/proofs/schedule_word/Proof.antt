@@ -9,30 +9,24 @@ use Rattle.desk_digest.proofs.schedule_word.Tie as tie
 use Rattle.desk_digest.proofs.schedule_word.Reads as reads
 use Rattle.desk_digest.proofs.schedule_word.Lts as lts
 use Rattle.desk_digest.proofs.mixed.Reads as mixed-reads
-use Rattle.desk_digest.proofs.word_at.Reads as word-at-reads
+use Rattle.desk_digest.proofs.padding.word_at.Reads as word-at-reads
 
--- src/lib.rt:235:36
 mul-word-at : tie.Need-mul-word-at
 mul-word-at c = search needs
 
--- src/lib.rt:235:31
 add-word-at : tie.Need-add-word-at
 add-word-at c = record { fits = inside (c .before .before .args .bytes .now) _ (c .before .before .good .0 .1) (search needs) }
 
--- src/lib.rt:235:9
 word-at-requires : tie.Need-word-at-requires
 word-at-requires c κs = search needs
 
--- src/lib.rt:235:9
 returns : tie.Need-returns
 unfolding scheduleWord
 returns c = rw (lt-ltb _ _ (c .before .if1 .taken)) (c .word-at .ensures)
 
--- src/lib.rt:237:5
 mixed-requires : tie.Need-mixed-requires
 mixed-requires c κs = search needs
 
--- src/lib.rt:230:1
 returns-2 : tie.Need-returns-2
 unfolding scheduleWord
 returns-2 c = rw (le-ltb _ _ (c .before .if1 .left)) (c .mixed .ensures)

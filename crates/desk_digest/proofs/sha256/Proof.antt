@@ -8,15 +8,12 @@ use Rattle.desk_digest.proofs.sha256.Lts as lts
 use Rattle.desk_digest.proofs.bytes_of.Reads as bytes-of-reads
 use Rattle.desk_digest.proofs.hash.Reads as hash-reads
 
--- src/lib.rt:325:9
 hash-requires : tie.Need-hash-requires
 hash-requires c κs = search needs
 
--- src/lib.rt:326:5
 bytes-of-requires : tie.Need-bytes-of-requires
 bytes-of-requires c κs = search needs
 
--- src/lib.rt:322:1
 returns : tie.Need-returns
 unfolding sha256
 returns c = c .bytes-of .ensures ∙ rw (c .before .hash .ensures)

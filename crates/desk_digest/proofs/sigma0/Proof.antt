@@ -6,15 +6,12 @@ use Rattle.desk_digest.proofs.sigma0.Reads as reads
 use Rattle.desk_digest.proofs.sigma0.Lts as lts
 use Rattle.desk_digest.proofs.rotr.Reads as rotr-reads
 
--- src/lib.rt:81:5
 rotr-requires : tie.Need-rotr-requires
 rotr-requires c κs = search needs
 
--- src/lib.rt:81:18
 rotr-requires-2 : tie.Need-rotr-requires-2
 rotr-requires-2 c κs = search needs
 
--- src/lib.rt:78:1
 returns : tie.Need-returns
 unfolding σ0 shr
 returns c = rw (c .before .rotr .ensures, c .rotr2 .ensures)

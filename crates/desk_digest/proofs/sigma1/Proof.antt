@@ -6,15 +6,12 @@ use Rattle.desk_digest.proofs.sigma1.Reads as reads
 use Rattle.desk_digest.proofs.sigma1.Lts as lts
 use Rattle.desk_digest.proofs.rotr.Reads as rotr-reads
 
--- src/lib.rt:88:5
 rotr-requires : tie.Need-rotr-requires
 rotr-requires c κs = search needs
 
--- src/lib.rt:88:19
 rotr-requires-2 : tie.Need-rotr-requires-2
 rotr-requires-2 c κs = search needs
 
--- src/lib.rt:85:1
 returns : tie.Need-returns
 unfolding σ1 shr
 returns c = rw (c .before .rotr .ensures, c .rotr2 .ensures)

@@ -6,39 +6,30 @@ use Rattle.desk_digest.proofs.sums.Reads as reads
 use Rattle.desk_digest.proofs.sums.Lts as lts
 use Rattle.desk_digest.proofs.plus.Reads as plus-reads
 
--- src/lib.rt:131:12
 plus-requires : tie.Need-plus-requires
 plus-requires c κs = search needs
 
--- src/lib.rt:132:12
 plus-requires-2 : tie.Need-plus-requires-2
 plus-requires-2 c κs = search needs
 
--- src/lib.rt:133:12
 plus-requires-3 : tie.Need-plus-requires-3
 plus-requires-3 c κs = search needs
 
--- src/lib.rt:134:12
 plus-requires-4 : tie.Need-plus-requires-4
 plus-requires-4 c κs = search needs
 
--- src/lib.rt:135:12
 plus-requires-5 : tie.Need-plus-requires-5
 plus-requires-5 c κs = search needs
 
--- src/lib.rt:136:12
 plus-requires-6 : tie.Need-plus-requires-6
 plus-requires-6 c κs = search needs
 
--- src/lib.rt:137:12
 plus-requires-7 : tie.Need-plus-requires-7
 plus-requires-7 c κs = search needs
 
--- src/lib.rt:138:12
 plus-requires-8 : tie.Need-plus-requires-8
 plus-requires-8 c κs = search needs
 
--- src/lib.rt:127:1
 returns : tie.Need-returns
 unfolding sums
 returns c = cc

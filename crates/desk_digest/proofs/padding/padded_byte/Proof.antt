@@ -2,45 +2,36 @@ use mathlib.Core.Path.{_≡_, sym, ap, _∙_}
 use native.Mathlib.Omega.{arith}
 use Rattle.desk_digest.proofs.Paddings.{padded-length, at-message, at-one, at-zero, at-length}
 use borrow.Author.Needs.{needs}
-use Rattle.desk_digest.proofs.padded_byte.Statement.{statement}
-use Rattle.desk_digest.proofs.padded_byte.Tie as tie
-use Rattle.desk_digest.proofs.padded_byte.Reads as reads
-use Rattle.desk_digest.proofs.padded_byte.Lts as lts
-use Rattle.desk_digest.proofs.length_byte.Reads as length-byte-reads
+use Rattle.desk_digest.proofs.padding.padded_byte.Statement.{statement}
+use Rattle.desk_digest.proofs.padding.padded_byte.Tie as tie
+use Rattle.desk_digest.proofs.padding.padded_byte.Reads as reads
+use Rattle.desk_digest.proofs.padding.padded_byte.Lts as lts
+use Rattle.desk_digest.proofs.padding.length_byte.Reads as length-byte-reads
 
--- src/lib.rt:187:16
 shared-slice-read-result : tie.Need-shared-slice-read-result
 shared-slice-read-result c = search needs
 
--- src/lib.rt:187:9
 returns : tie.Need-returns
 returns c = at-message _ _ (c .before .if1 .taken)
 
--- src/lib.rt:190:9
 returns-2 : tie.Need-returns-2
 returns-2 c = at-one _ _ (c .if2 .taken)
 
--- src/lib.rt:192:17
 add-last : tie.Need-add-last
 add-last c = search needs
 
--- src/lib.rt:192:16
 mul-last : tie.Need-mul-last
 mul-last c = search needs
 
--- src/lib.rt:192:16
 sub-last : tie.Need-sub-last
 sub-last c = search needs
 
--- src/lib.rt:194:9
 returns-3 : tie.Need-returns-3
 returns-3 c = at-zero _ _ (omega arith) (c .if3 .taken)
 
--- src/lib.rt:196:5
 length-byte-requires : tie.Need-length-byte-requires
 length-byte-requires c κs = let l = padded-length (c .before .before .before .before .args .bytes .now) in omega arith
 
--- src/lib.rt:181:1
 returns-4 : tie.Need-returns-4
 returns-4 c = c .length-byte .ensures ∙ at-length _ _ (omega arith) (c .before .if3 .left)
 

@@ -3,82 +3,64 @@ use native.Mathlib.Omega.{arith}
 use Rattle.desk_digest.specs.Sha256.{wordAt}
 use Rattle.desk_digest.proofs.Paddings.{inside}
 use borrow.Author.Needs.{needs}
-use Rattle.desk_digest.proofs.word_at.Statement.{statement}
-use Rattle.desk_digest.proofs.word_at.Tie as tie
-use Rattle.desk_digest.proofs.word_at.Reads as reads
-use Rattle.desk_digest.proofs.word_at.Lts as lts
-use Rattle.desk_digest.proofs.padded_byte.Reads as padded-byte-reads
-use Rattle.desk_digest.proofs.wide.Reads as wide-reads
+use Rattle.desk_digest.proofs.padding.word_at.Statement.{statement}
+use Rattle.desk_digest.proofs.padding.word_at.Tie as tie
+use Rattle.desk_digest.proofs.padding.word_at.Reads as reads
+use Rattle.desk_digest.proofs.padding.word_at.Lts as lts
+use Rattle.desk_digest.proofs.padding.padded_byte.Reads as padded-byte-reads
+use Rattle.desk_digest.proofs.padding.wide.Reads as wide-reads
 
--- src/lib.rt:211:19
 padded-byte-requires : tie.Need-padded-byte-requires
 padded-byte-requires c κs = search needs
 
--- src/lib.rt:211:9
 wide-requires : tie.Need-wide-requires
 wide-requires c κs = search needs
 
--- src/lib.rt:212:38
 add-padded-byte : tie.Need-add-padded-byte
 add-padded-byte c = record { fits = inside (c .before .before .before .args .bytes .now) _ (c .before .before .before .good .0 .1) (search needs) }
 
--- src/lib.rt:212:19
 padded-byte-requires-2 : tie.Need-padded-byte-requires-2
 padded-byte-requires-2 c κs = search needs
 
--- src/lib.rt:212:9
 wide-requires-2 : tie.Need-wide-requires-2
 wide-requires-2 c κs = search needs
 
--- src/lib.rt:213:38
 add-padded-byte-2 : tie.Need-add-padded-byte-2
 add-padded-byte-2 c = record { fits = inside (c .before .before .before .before .before .args .bytes .now) _ (c .before .before .before .before .before .good .0 .1) (search needs) }
 
--- src/lib.rt:213:19
 padded-byte-requires-3 : tie.Need-padded-byte-requires-3
 padded-byte-requires-3 c κs = search needs
 
--- src/lib.rt:213:9
 wide-requires-3 : tie.Need-wide-requires-3
 wide-requires-3 c κs = search needs
 
--- src/lib.rt:214:38
 add-padded-byte-3 : tie.Need-add-padded-byte-3
 add-padded-byte-3 c = record { fits = inside (c .before .before .before .before .before .before .before .args .bytes .now) _ (c .before .before .before .before .before .before .before .good .0 .1) (search needs) }
 
--- src/lib.rt:214:19
 padded-byte-requires-4 : tie.Need-padded-byte-requires-4
 padded-byte-requires-4 c κs = search needs
 
--- src/lib.rt:214:9
 wide-requires-4 : tie.Need-wide-requires-4
 wide-requires-4 c κs = search needs
 
--- src/lib.rt:215:7
 mul-result : tie.Need-mul-result
 mul-result c = search needs
 
--- src/lib.rt:215:7
 add-result : tie.Need-add-result
 add-result c = search needs
 
--- src/lib.rt:215:6
 mul-result-2 : tie.Need-mul-result-2
 mul-result-2 c = search needs
 
--- src/lib.rt:215:6
 add-result-2 : tie.Need-add-result-2
 add-result-2 c = search needs
 
--- src/lib.rt:215:5
 mul-result-3 : tie.Need-mul-result-3
 mul-result-3 c = search needs
 
--- src/lib.rt:215:5
 add-result-3 : tie.Need-add-result-3
 add-result-3 c = search needs
 
--- src/lib.rt:207:1
 returns : tie.Need-returns
 unfolding wordAt
 returns c = rw (c .before .before .before .before .before .before .wide .ensures .0, c .before .before .before .before .before .before .before .padded-byte .ensures, c .before .before .before .before .wide2 .ensures .0, c .before .before .before .before .before .padded-byte2 .ensures, c .before .before .wide3 .ensures .0, c .before .before .before .padded-byte3 .ensures, c .wide4 .ensures .0, c .before .padded-byte4 .ensures)
