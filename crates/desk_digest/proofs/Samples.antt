@@ -2,7 +2,7 @@
 use mathlib.Core.Path.{_≡_, refl}
 use mathlib.Core.List.{List, [], _∷_}
 use Prim.Native.Nat.{ℕ}
-use Rattle.desk_digest.specs.Words.{plus, complement, shr, rotr, Ch, Maj, Σ0, Σ1, σ0, σ1}
+use Rattle.desk_digest.specs.Words.{_⊞_, complement, shr, rotr, Ch, Maj, Σ0, Σ1, σ0, σ1}
 use Rattle.desk_digest.specs.Constants.{constants, initial}
 use Rattle.desk_digest.specs.Padding.{bigEndian, zeros, padded}
 use Rattle.desk_digest.specs.Sha256.{wordAt, mixed, scheduleWord, grown, schedule, T1, T2, turned, round, rounds, sums, compress, hash, bytesOf, sha256}
@@ -35,5 +35,5 @@ samples =
 
 -- every sample's digest is the definition's
 pub right : digested samples ≡ samples
-unfolding plus complement shr rotr Ch Maj Σ0 Σ1 σ0 σ1 constants initial bigEndian zeros padded wordAt mixed scheduleWord grown schedule T1 T2 turned round rounds sums compress hash bytesOf sha256
+unfolding _⊞_ complement shr rotr Ch Maj Σ0 Σ1 σ0 σ1 constants initial bigEndian zeros padded wordAt mixed scheduleWord grown schedule T1 T2 turned round rounds sums compress hash bytesOf sha256
 right = refl

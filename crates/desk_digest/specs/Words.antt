@@ -2,9 +2,10 @@
 use Prim.Native.Nat.{ℕ, _+_, _-_, _*_, _/_, _%_, _^_}
 use lib.Bits.{bitAnd, bitOr, bitXor}
 
+infixl 6 _⊞_
 -- the sum modulo 2 ^ 32
-unfoldable pub plus : ℕ → ℕ → ℕ
-plus x y = (x + y) % 2 ^ 32
+unfoldable pub _⊞_ : ℕ → ℕ → ℕ
+x ⊞ y = (x + y) % 2 ^ 32
 
 -- the complement of the bits
 unfoldable pub complement : ℕ → ℕ

@@ -6,7 +6,7 @@ ghost use mathlib.Core.Path.{_≡_};
 ghost use Prim.Native.Nat.{_+_, _/_, _%_, _^_, _≤_, _<_};
 ghost use lib.ListN.{length};
 ghost use Rattle.words.specs.Blocks.{puts};
-ghost use Rattle.desk_digest.specs.Words.{plus, rotr, Ch, Maj, Σ0, Σ1, σ0, σ1};
+ghost use Rattle.desk_digest.specs.Words.{_⊞_, rotr, Ch, Maj, Σ0, Σ1, σ0, σ1};
 ghost use Rattle.desk_digest.specs.Padding.{bigEndian, padded};
 ghost use Rattle.desk_digest.specs.Sha256.{mixed, scheduleWord, schedule, T1, T2, round, rounds, sums, compress, hash, bytesOf, sha256};
 
@@ -32,17 +32,9 @@ fn rotr(x: u32, n: u32) -> u32
 
 // The sum.
 fn plus(x: u32, y: u32) -> u32
-    ensures { λ r. ⌜ r ≡ plus x y ⌝ }
+    ensures { λ r. ⌜ r ≡ x ⊞ y ⌝ }
 {
     std::num::wrapping_add_u32(x, y)
-}
-
-// The sum of four words.
-fn sum_of_four(x: u32, y: u32, z: u32, u: u32) -> u32
-    ensures { λ r. ⌜ r ≡ (x + y + z + u) % 2 ^ 32 ⌝ }
-{
-    let sum = x as u64 + y as u64 + z as u64 + u as u64;
-    (sum % 4294967296) as u32
 }
 
 // The choice of y or z by x, bit by bit.
@@ -94,7 +86,7 @@ fn mixed(w: &[u32; 64], t: usize) -> u32
 {
     let x = sigma1(w[t - 2]);
     let y = sigma0(w[t - 15]);
-    sum_of_four(x, w[t - 7], y, w[t - 16])
+    plus(plus(plus(x, w[t - 7]), y), w[t - 16])
 }
 
 // W_t of the block at a place, of the words before it.
@@ -129,8 +121,7 @@ fn first_sum(s: Eight, k: u32, w: u32) -> u32
 {
     let mixed = sum1(s.e);
     let chosen = ch(s.e, s.f, s.g);
-    let sum = s.h as u64 + mixed as u64 + chosen as u64 + k as u64 + w as u64;
-    (sum % 4294967296) as u32
+    plus(plus(plus(plus(s.h, mixed), chosen), k), w)
 }
 
 // T2 of a round.

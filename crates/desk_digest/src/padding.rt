@@ -6,22 +6,22 @@ ghost use Rattle.desk_digest.specs.Padding.{bigEndian, padded};
 ghost use Rattle.desk_digest.specs.Sha256.{wordAt};
 
 // The byte at j of the eight that hold the number of bits in n bytes.
-fn length_byte(n: usize, j: usize) -> u8
+fn length_byte(n: usize, j: usize) -> u32
     requires { ⌜ j < 8 ⌝ }
-    ensures { λ r. ⌜ r ≡ getD (bigEndian 8 (n * 8)) j 0 ⌝ }
+    ensures { λ r. ⌜ (r ≡ getD (bigEndian 8 (n * 8)) j 0) × (r < 256) ⌝ }
 {
     let bits = n << 3;
-    ((bits >> (56 - 8 * j)) % 256) as u8
+    ((bits >> (56 - 8 * j)) % 256) as u32
 }
 
 // The byte at i of the padded message.
-fn padded_byte(bytes: &[u8], i: usize) -> u8
+fn padded_byte(bytes: &[u8], i: usize) -> u32
     requires { ⌜ i < length (padded (now bytes)) ⌝ }
-    ensures { λ r. ⌜ r ≡ getD (padded (now (bytes .entry))) i 0 ⌝ }
+    ensures { λ r. ⌜ (r ≡ getD (padded (now (bytes .entry))) i 0) × (r < 256) ⌝ }
 {
     let n = bytes.len();
     if i < n {
-        return bytes[i];
+        return bytes[i] as u32;
     }
     if i == n {
         return 0x80;
@@ -33,21 +33,14 @@ fn padded_byte(bytes: &[u8], i: usize) -> u8
     length_byte(n, i - last)
 }
 
-// A byte as a word.
-fn wide(x: u8) -> u32
-    ensures { λ r. ⌜ (r ≡ x) × (r < 256) ⌝ }
-{
-    x as u32
-}
-
 // The word at a place of the padded message.
 pub fn word_at(bytes: &[u8], at: usize) -> u32
     requires { ⌜ at + 4 ≤ length (padded (now bytes)) ⌝ }
     ensures { λ r. ⌜ r ≡ wordAt (padded (now (bytes .entry))) at ⌝ }
 {
-    let b0 = wide(padded_byte(bytes, at));
-    let b1 = wide(padded_byte(bytes, at + 1));
-    let b2 = wide(padded_byte(bytes, at + 2));
-    let b3 = wide(padded_byte(bytes, at + 3));
+    let b0 = padded_byte(bytes, at);
+    let b1 = padded_byte(bytes, at + 1);
+    let b2 = padded_byte(bytes, at + 2);
+    let b3 = padded_byte(bytes, at + 3);
     ((b0 * 256 + b1) * 256 + b2) * 256 + b3
 }

@@ -1,14 +1,13 @@
-use mathlib.Core.Path.{_≡_, sym, ap, _∙_}
-use native.Mathlib.Omega.{arith}
 use Rattle.desk_digest.specs.Sha256.{mixed}
+use mathlib.Core.Path.{_∙_}
 use borrow.Author.Needs.{needs}
 use Rattle.desk_digest.proofs.mixed.Statement.{statement}
 use Rattle.desk_digest.proofs.mixed.Tie as tie
 use Rattle.desk_digest.proofs.mixed.Reads as reads
 use Rattle.desk_digest.proofs.mixed.Lts as lts
+use Rattle.desk_digest.proofs.plus.Reads as plus-reads
 use Rattle.desk_digest.proofs.sigma0.Reads as sigma0-reads
 use Rattle.desk_digest.proofs.sigma1.Reads as sigma1-reads
-use Rattle.desk_digest.proofs.sum_of_four.Reads as sum-of-four-reads
 
 sub-sigma1 : tie.Need-sub-sigma1
 sub-sigma1 c = search needs
@@ -34,30 +33,36 @@ element-copy-out-sigma0 c = search needs
 sigma0-requires : tie.Need-sigma0-requires
 sigma0-requires c κs = search needs
 
-sub-sum-of-four : tie.Need-sub-sum-of-four
-sub-sum-of-four c = search needs
+sub-plus : tie.Need-sub-plus
+sub-plus c = search needs
 
-mul-sum-of-four : tie.Need-mul-sum-of-four
-mul-sum-of-four c = search needs
+mul-plus : tie.Need-mul-plus
+mul-plus c = search needs
 
-element-copy-out-sum-of-four : tie.Need-element-copy-out-sum-of-four
-element-copy-out-sum-of-four c = search needs
+element-copy-out-plus : tie.Need-element-copy-out-plus
+element-copy-out-plus c = search needs
 
-sub-sum-of-four-2 : tie.Need-sub-sum-of-four-2
-sub-sum-of-four-2 c = search needs
+plus-requires : tie.Need-plus-requires
+plus-requires c κs = search needs
 
-mul-sum-of-four-2 : tie.Need-mul-sum-of-four-2
-mul-sum-of-four-2 c = search needs
+plus-requires-2 : tie.Need-plus-requires-2
+plus-requires-2 c κs = search needs
 
-element-copy-out-sum-of-four-2 : tie.Need-element-copy-out-sum-of-four-2
-element-copy-out-sum-of-four-2 c = search needs
+sub-plus-2 : tie.Need-sub-plus-2
+sub-plus-2 c = search needs
 
-sum-of-four-requires : tie.Need-sum-of-four-requires
-sum-of-four-requires c κs = search needs
+mul-plus-2 : tie.Need-mul-plus-2
+mul-plus-2 c = search needs
+
+element-copy-out-plus-2 : tie.Need-element-copy-out-plus-2
+element-copy-out-plus-2 c = search needs
+
+plus-requires-3 : tie.Need-plus-requires-3
+plus-requires-3 c κs = search needs
 
 returns : tie.Need-returns
 unfolding mixed
-returns c = c .sum-of-four .ensures ∙ rw (c .before .before .before .sigma0 .ensures, c .before .before .before .before .before .sigma1 .ensures)
+returns c = c .plus3 .ensures ∙ rw (c .before .before .plus2 .ensures, c .before .before .before .plus .ensures, c .before .before .before .before .before .sigma0 .ensures, c .before .before .before .before .before .before .before .sigma1 .ensures)
 
 pub mixed-spec : {M : Type 1} → statement M
 mixed-spec =
@@ -71,11 +76,13 @@ mixed-spec =
     mul-sigma0
     element-copy-out-sigma0
     sigma0-requires
-    sub-sum-of-four
-    mul-sum-of-four
-    element-copy-out-sum-of-four
-    sub-sum-of-four-2
-    mul-sum-of-four-2
-    element-copy-out-sum-of-four-2
-    sum-of-four-requires
+    sub-plus
+    mul-plus
+    element-copy-out-plus
+    plus-requires
+    plus-requires-2
+    sub-plus-2
+    mul-plus-2
+    element-copy-out-plus-2
+    plus-requires-3
     returns)

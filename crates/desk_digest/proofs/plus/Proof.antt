@@ -1,4 +1,4 @@
-use Rattle.desk_digest.specs.Words.{plus}
+use Rattle.desk_digest.specs.Words.{_⊞_}
 use borrow.Author.Needs.{needs}
 use Rattle.desk_digest.proofs.plus.Statement.{statement}
 use Rattle.desk_digest.proofs.plus.Tie as tie
@@ -10,7 +10,7 @@ wrapping-add-u32-requires : tie.Need-wrapping-add-u32-requires
 wrapping-add-u32-requires c κs = search needs
 
 returns : tie.Need-returns
-unfolding plus
+unfolding _⊞_
 returns c = c .wrapping-add-u32 .ensures
 
 pub plus-spec : {M : Type 1} → statement M

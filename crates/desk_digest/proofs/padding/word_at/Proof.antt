@@ -1,5 +1,3 @@
-use mathlib.Core.Path.{_≡_, sym, ap, _∙_}
-use native.Mathlib.Omega.{arith}
 use Rattle.desk_digest.specs.Sha256.{wordAt}
 use Rattle.desk_digest.proofs.Paddings.{inside}
 use borrow.Author.Needs.{needs}
@@ -8,40 +6,27 @@ use Rattle.desk_digest.proofs.padding.word_at.Tie as tie
 use Rattle.desk_digest.proofs.padding.word_at.Reads as reads
 use Rattle.desk_digest.proofs.padding.word_at.Lts as lts
 use Rattle.desk_digest.proofs.padding.padded_byte.Reads as padded-byte-reads
-use Rattle.desk_digest.proofs.padding.wide.Reads as wide-reads
 
 padded-byte-requires : tie.Need-padded-byte-requires
 padded-byte-requires c κs = search needs
 
-wide-requires : tie.Need-wide-requires
-wide-requires c κs = search needs
-
 add-padded-byte : tie.Need-add-padded-byte
-add-padded-byte c = record { fits = inside (c .before .before .before .args .bytes .now) _ (c .before .before .before .good .0 .1) (search needs) }
+add-padded-byte c = record { fits = inside (c .before .before .args .bytes .now) _ (c .before .before .good .0 .1) (search needs) }
 
 padded-byte-requires-2 : tie.Need-padded-byte-requires-2
 padded-byte-requires-2 c κs = search needs
 
-wide-requires-2 : tie.Need-wide-requires-2
-wide-requires-2 c κs = search needs
-
 add-padded-byte-2 : tie.Need-add-padded-byte-2
-add-padded-byte-2 c = record { fits = inside (c .before .before .before .before .before .args .bytes .now) _ (c .before .before .before .before .before .good .0 .1) (search needs) }
+add-padded-byte-2 c = record { fits = inside (c .before .before .before .args .bytes .now) _ (c .before .before .before .good .0 .1) (search needs) }
 
 padded-byte-requires-3 : tie.Need-padded-byte-requires-3
 padded-byte-requires-3 c κs = search needs
 
-wide-requires-3 : tie.Need-wide-requires-3
-wide-requires-3 c κs = search needs
-
 add-padded-byte-3 : tie.Need-add-padded-byte-3
-add-padded-byte-3 c = record { fits = inside (c .before .before .before .before .before .before .before .args .bytes .now) _ (c .before .before .before .before .before .before .before .good .0 .1) (search needs) }
+add-padded-byte-3 c = record { fits = inside (c .before .before .before .before .args .bytes .now) _ (c .before .before .before .before .good .0 .1) (search needs) }
 
 padded-byte-requires-4 : tie.Need-padded-byte-requires-4
 padded-byte-requires-4 c κs = search needs
-
-wide-requires-4 : tie.Need-wide-requires-4
-wide-requires-4 c κs = search needs
 
 mul-result : tie.Need-mul-result
 mul-result c = search needs
@@ -63,23 +48,19 @@ add-result-3 c = search needs
 
 returns : tie.Need-returns
 unfolding wordAt
-returns c = rw (c .before .before .before .before .before .before .wide .ensures .0, c .before .before .before .before .before .before .before .padded-byte .ensures, c .before .before .before .before .wide2 .ensures .0, c .before .before .before .before .before .padded-byte2 .ensures, c .before .before .wide3 .ensures .0, c .before .before .before .padded-byte3 .ensures, c .wide4 .ensures .0, c .before .padded-byte4 .ensures)
+returns c = rw (c .before .before .before .padded-byte .ensures .0, c .before .before .padded-byte2 .ensures .0, c .before .padded-byte3 .ensures .0, c .padded-byte4 .ensures .0)
 
 pub word-at-spec : {M : Type 1} → statement M
 word-at-spec =
     tie.close
     (tie.spec
     padded-byte-requires
-    wide-requires
     add-padded-byte
     padded-byte-requires-2
-    wide-requires-2
     add-padded-byte-2
     padded-byte-requires-3
-    wide-requires-3
     add-padded-byte-3
     padded-byte-requires-4
-    wide-requires-4
     mul-result
     add-result
     mul-result-2
