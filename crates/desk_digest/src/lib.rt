@@ -8,7 +8,7 @@ ghost use lib.ListN.{length};
 ghost use Rattle.words.specs.Blocks.{puts};
 ghost use Rattle.desk_digest.specs.Words.{_⊞_, rotr, Ch, Maj, Σ0, Σ1, σ0, σ1};
 ghost use Rattle.desk_digest.specs.Padding.{bigEndian, padded};
-ghost use Rattle.desk_digest.specs.Sha256.{mixed, scheduleWord, schedule, T1, T2, round, rounds, sums, compress, hash, bytesOf, sha256};
+ghost use Rattle.desk_digest.specs.Sha256.{mixed, scheduleWord, schedule, T1, T2, round, sums, compress, bytesOf, sha256};
 
 // Eight words: the working variables a to h, and a hash value.
 pub struct Eight {
@@ -149,20 +149,6 @@ fn round(s: Eight, k: u32, w: u32) -> Eight
     }
 }
 
-// The sixty-four rounds.
-fn rounds(s: Eight, w: &[u32; 64]) -> Eight
-    ensures { λ r. ⌜ r ≡ rounds s (now (w .entry)) 64 ⌝ }
-{
-    let mut turned = s;
-    let mut t = 0;
-    while t < 64 {
-        let k = crate::constants::constant(t);
-        turned = round(turned, k, w[t]);
-        t += 1;
-    }
-    turned
-}
-
 // The sums of the words, one by one.
 fn sums(x: Eight, y: Eight) -> Eight
     ensures { λ r. ⌜ r ≡ sums x y ⌝ }
@@ -179,26 +165,18 @@ fn sums(x: Eight, y: Eight) -> Eight
     }
 }
 
-// The next hash value, of that before it and the schedule of a block.
+// The next hash value, of that before it and the schedule of a block, by sixty-four rounds.
 fn compress(s: Eight, w: &[u32; 64]) -> Eight
     ensures { λ r. ⌜ r ≡ compress s (now (w .entry)) ⌝ }
 {
-    sums(rounds(s, w), s)
-}
-
-// The last hash value of the padded message.
-fn hash(bytes: &[u8]) -> Eight
-    ensures { λ r. ⌜ r ≡ hash (padded (now (bytes .entry))) (length (padded (now (bytes .entry))) / 64) ⌝ }
-{
-    let count = (bytes.len() + 72) / 64;
-    let mut s = crate::constants::initial();
-    let mut i = 0;
-    while i < count {
-        let w = schedule(bytes, 64 * i);
-        s = compress(s, &w);
-        i += 1;
+    let mut turned = s;
+    let mut t = 0;
+    while t < 64 {
+        let k = crate::constants::constant(t);
+        turned = round(turned, k, w[t]);
+        t += 1;
     }
-    s
+    sums(turned, s)
 }
 
 // Puts the four bytes of a word at a place.
@@ -228,10 +206,17 @@ fn bytes_of(s: Eight) -> [u8; 32]
     out
 }
 
-// The digest of the bytes.
+// The digest of the bytes, block by block.
 pub fn sha256(bytes: &[u8]) -> [u8; 32]
     ensures { λ r. ⌜ r ≡ sha256 (now (bytes .entry)) ⌝ }
 {
-    let s = hash(bytes);
+    let count = (bytes.len() + 72) / 64;
+    let mut s = crate::constants::initial();
+    let mut i = 0;
+    while i < count {
+        let w = schedule(bytes, 64 * i);
+        s = compress(s, &w);
+        i += 1;
+    }
     bytes_of(s)
 }
