@@ -60,23 +60,30 @@ after-one m i h =
     let l : length m ≤ i = omega arith in
     past m _ i l ∙ ap (λ (k : ℕ). getD (0x80 ∷ (replicate (zeros (length m)) 0 ++ bigEndian 8 (length m * 8))) k 0) e
 
+-- a place among zeros, and one past them
+among : (z j : ℕ) (y : List ℕ) → j < z → 0 ≡ getD (replicate z 0 ++ y) j 0
+among z j y h =
+    let l : j < length (replicate {A = ℕ} z 0) = rw (length-replicate {A = ℕ} z 0) h in
+    sym (List·getD-append (replicate z 0) y 0 j l ∙ getD-replicate z j 0 0 h)
+
+beyond : (z j : ℕ) (y : List ℕ) → z ≤ j → getD y (j - z) 0 ≡ getD (replicate z 0 ++ y) j 0
+beyond z j y h =
+    let l : length (replicate {A = ℕ} z 0) ≤ j = rw (length-replicate {A = ℕ} z 0) h in
+    sym (past (replicate z 0) y j l ∙ rw (length-replicate {A = ℕ} z 0))
+
 -- then zeros
 pub at-zero : (m : List ℕ) (i : ℕ) → length m < i → i < (length m + 72) / 64 * 64 - 8 → 0 ≡ getD (padded m) i 0
 at-zero m i h l =
-    let z : ℕ = zeros (length m) in
-    let j : i - length m - 1 < z = omega (arith, before-length (length m)) in
-    let r : i - length m - 1 < length (replicate {A = ℕ} z 0) = rw (length-replicate {A = ℕ} z 0) j in
-    sym (after-one m i h ∙ List·getD-append (replicate z 0) _ 0 (i - length m - 1) r ∙ getD-replicate z _ 0 0 j)
+    let j : i - length m - 1 < zeros (length m) = omega (arith, before-length (length m)) in
+    rw (after-one m i h) (among _ _ _ j)
 
 -- then the length
 pub at-length : (m : List ℕ) (i : ℕ) → length m < i → (length m + 72) / 64 * 64 - 8 ≤ i
     → getD (bigEndian 8 (length m * 8)) (i - ((length m + 72) / 64 * 64 - 8)) 0 ≡ getD (padded m) i 0
 at-length m i h l =
-    let z : ℕ = zeros (length m) in
-    let j : z ≤ i - length m - 1 = omega (arith, before-length (length m)) in
-    let r : length (replicate {A = ℕ} z 0) ≤ i - length m - 1 = rw (length-replicate {A = ℕ} z 0) j in
-    let e : i - length m - 1 - z ≡ i - ((length m + 72) / 64 * 64 - 8) = omega (arith, before-length (length m)) in
-    sym (after-one m i h ∙ past (replicate z 0) _ (i - length m - 1) r ∙ rw (length-replicate {A = ℕ} z 0, e))
+    let e : i - ((length m + 72) / 64 * 64 - 8) ≡ i - length m - 1 - zeros (length m) = omega (arith, before-length (length m)) in
+    let j : zeros (length m) ≤ i - length m - 1 = omega (arith, before-length (length m)) in
+    rw (after-one m i h, e) (beyond _ _ _ j)
 
 -- the bytes of a number that was taken modulo 2 ^ 64
 pub byte-of : (x j : ℕ) → j < 8 → x % 2 ^ 64 / 2 ^ (56 - 8 * j) % 256 ≡ getD (bigEndian 8 x) j 0

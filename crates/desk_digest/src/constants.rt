@@ -1,12 +1,7 @@
 // The constants of SHA-256.
-ghost use mathlib.Core.Path.{_≡_};
-ghost use Prim.Native.Nat.{_<_};
-ghost use lib.ListN.{getD};
-ghost use Rattle.desk_digest.specs.Constants.{constants, initial};
-use crate::Eight;
 
 // The constants K_0 to K_63.
-const K: [u32; 64] = [
+pub const K: [u32; 64] = [
     0x428a2f98,
     0x71374491,
     0xb5c0fbcf,
@@ -72,27 +67,3 @@ const K: [u32; 64] = [
     0xbef9a3f7,
     0xc67178f2,
 ];
-
-// The constant of round t.
-pub fn constant(t: usize) -> u32
-    requires { ⌜ t < 64 ⌝ }
-    ensures { λ r. ⌜ r ≡ getD constants t 0 ⌝ }
-{
-    K[t]
-}
-
-// The initial hash value.
-pub fn initial() -> Eight
-    ensures { λ r. ⌜ r ≡ initial ⌝ }
-{
-    Eight {
-        a: 0x6a09e667,
-        b: 0xbb67ae85,
-        c: 0x3c6ef372,
-        d: 0xa54ff53a,
-        e: 0x510e527f,
-        f: 0x9b05688c,
-        g: 0x1f83d9ab,
-        h: 0x5be0cd19,
-    }
-}

@@ -8,7 +8,10 @@ ghost use lib.ListN.{length};
 ghost use Rattle.words.specs.Blocks.{puts};
 ghost use Rattle.desk_digest.specs.Words.{_⊞_, rotr, Ch, Maj, Σ0, Σ1, σ0, σ1};
 ghost use Rattle.desk_digest.specs.Padding.{bigEndian, padded};
+ghost use Rattle.desk_digest.specs.Constants.{initial};
 ghost use Rattle.desk_digest.specs.Sha256.{mixed, scheduleWord, schedule, T1, T2, round, sums, compress, bytesOf, sha256};
+use crate::constants::K;
+use crate::padding::word_at;
 
 // Eight words: the working variables a to h, and a hash value.
 pub struct Eight {
@@ -95,7 +98,7 @@ fn schedule_word(bytes: &[u8], at: usize, w: &[u32; 64], t: usize) -> u32
     ensures { λ r. ⌜ r ≡ scheduleWord (padded (now (bytes .entry))) at (now (w .entry)) t ⌝ }
 {
     if t < 16 {
-        return crate::padding::word_at(bytes, at + 4 * t);
+        return word_at(bytes, at + 4 * t);
     }
     mixed(w, t)
 }
@@ -119,9 +122,9 @@ fn schedule(bytes: &[u8], at: usize) -> [u32; 64]
 fn first_sum(s: Eight, k: u32, w: u32) -> u32
     ensures { λ r. ⌜ r ≡ T1 s k w ⌝ }
 {
-    let mixed = sum1(s.e);
+    let rotated = sum1(s.e);
     let chosen = ch(s.e, s.f, s.g);
-    plus(plus(plus(plus(s.h, mixed), chosen), k), w)
+    plus(plus(plus(plus(s.h, rotated), chosen), k), w)
 }
 
 // T2 of a round.
@@ -172,11 +175,26 @@ fn compress(s: Eight, w: &[u32; 64]) -> Eight
     let mut turned = s;
     let mut t = 0;
     while t < 64 {
-        let k = crate::constants::constant(t);
-        turned = round(turned, k, w[t]);
+        turned = round(turned, K[t], w[t]);
         t += 1;
     }
     sums(turned, s)
+}
+
+// The initial hash value.
+fn initial() -> Eight
+    ensures { λ r. ⌜ r ≡ initial ⌝ }
+{
+    Eight {
+        a: 0x6a09e667,
+        b: 0xbb67ae85,
+        c: 0x3c6ef372,
+        d: 0xa54ff53a,
+        e: 0x510e527f,
+        f: 0x9b05688c,
+        g: 0x1f83d9ab,
+        h: 0x5be0cd19,
+    }
 }
 
 // Puts the four bytes of a word at a place.
@@ -211,7 +229,7 @@ pub fn sha256(bytes: &[u8]) -> [u8; 32]
     ensures { λ r. ⌜ r ≡ sha256 (now (bytes .entry)) ⌝ }
 {
     let count = (bytes.len() + 72) / 64;
-    let mut s = crate::constants::initial();
+    let mut s = initial();
     let mut i = 0;
     while i < count {
         let w = schedule(bytes, 64 * i);

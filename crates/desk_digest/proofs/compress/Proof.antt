@@ -3,12 +3,12 @@ use Prim.Native.Nat.{ℕ, _-_, _≤_}
 use native.Mathlib.Omega.{arith}
 use native.Mathlib.Numerals.{add-one}
 use borrow.Author.Needs.{needs}
+use Rattle.desk_digest.specs.Constants.{constants}
 use Rattle.desk_digest.specs.Sha256.{rounds, compress}
 use Rattle.desk_digest.proofs.compress.Statement.{statement}
 use Rattle.desk_digest.proofs.compress.Tie as tie
 use Rattle.desk_digest.proofs.compress.Reads as reads
 use Rattle.desk_digest.proofs.compress.Lts as lts
-use Rattle.desk_digest.proofs.constants.constant.Reads as constant-reads
 use Rattle.desk_digest.proofs.round.Reads as round-reads
 use Rattle.desk_digest.proofs.sums.Reads as sums-reads
 
@@ -22,11 +22,14 @@ loop-holds : tie.Need-loop-holds Inv-loop μ-loop
 unfolding rounds
 loop-holds c = (search needs, refl)
 
-constant-requires : tie.Need-constant-requires Inv-loop μ-loop
-constant-requires c κs = search needs
-
 mul-round : tie.Need-mul-round Inv-loop μ-loop
 mul-round c = search needs
+
+array-read-round : tie.Need-array-read-round Inv-loop μ-loop
+array-read-round c = search needs
+
+mul-round-2 : tie.Need-mul-round-2 Inv-loop μ-loop
+mul-round-2 c = search needs
 
 element-copy-out-round : tie.Need-element-copy-out-round Inv-loop μ-loop
 element-copy-out-round c = search needs
@@ -41,8 +44,8 @@ loop-less : tie.Need-loop-less Inv-loop μ-loop
 loop-less c = search needs
 
 loop-again : tie.Need-loop-again Inv-loop μ-loop
-unfolding rounds
-loop-again c = (search needs, c .round .ensures ∙ rw (c .before .before .constant .ensures, c .before .before .before .before .loop .inv .1, add-one))
+unfolding rounds constants
+loop-again c = (search needs, c .round .ensures ∙ rw (c .before .before .before .loop .inv .1, add-one))
 
 sums-requires : tie.Need-sums-requires Inv-loop μ-loop
 sums-requires c κs = search needs
@@ -58,8 +61,9 @@ compress-spec =
     Inv-loop
     μ-loop
     loop-holds
-    constant-requires
     mul-round
+    array-read-round
+    mul-round-2
     element-copy-out-round
     round-requires
     add-t

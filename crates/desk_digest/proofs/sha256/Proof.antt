@@ -13,7 +13,7 @@ use Rattle.desk_digest.proofs.sha256.Reads as reads
 use Rattle.desk_digest.proofs.sha256.Lts as lts
 use Rattle.desk_digest.proofs.bytes_of.Reads as bytes-of-reads
 use Rattle.desk_digest.proofs.compress.Reads as compress-reads
-use Rattle.desk_digest.proofs.constants.initial.Reads as initial-reads
+use Rattle.desk_digest.proofs.initial.Reads as initial-reads
 use Rattle.desk_digest.proofs.schedule.Reads as schedule-reads
 
 abbrev Inv-loop : tie.InvT-loop
