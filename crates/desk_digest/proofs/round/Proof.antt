@@ -22,7 +22,7 @@ plus-requires-2 c κs = search needs
 
 returns : tie.Need-returns
 unfolding round turned
-returns c = cc
+returns c = rw (c .before .plus .ensures, c .plus2 .ensures, c .before .before .before .first-sum .ensures, c .before .before .second-sum .ensures)
 
 pub round-spec : {M : Type 1} → statement M
 round-spec =

@@ -32,7 +32,7 @@ plus-requires-8 c κs = search needs
 
 returns : tie.Need-returns
 unfolding sums
-returns c = cc
+returns c = rw (c .before .before .before .before .before .before .before .plus .ensures, c .before .before .before .before .before .before .plus2 .ensures, c .before .before .before .before .before .plus3 .ensures, c .before .before .before .before .plus4 .ensures, c .before .before .before .plus5 .ensures, c .before .before .plus6 .ensures, c .before .plus7 .ensures, c .plus8 .ensures)
 
 pub sums-spec : {M : Type 1} → statement M
 sums-spec =
