@@ -1,12 +1,13 @@
 -- Laws on the padded message: its length, and the byte at a place.
 use mathlib.Core.Path.{_≡_, refl, sym, ap, _∙_}
-use mathlib.Core.List.{List, [], _∷_, _++_}
+use mathlib.Core.List.{List, _∷_, _++_}
 use Prim.Native.Nat.{ℕ, zero, suc, _+_, _-_, _*_, _/_, _%_, _^_, _≤_, _<_}
 use native.Mathlib.Omega.{arith}
 use lib.ListN.{length, getD, replicate, length-append, length-replicate, getD-replicate, List·getD-append}
 use lib.Seq.{getD-append-add, getD-append-seam}
 use Rattle.desk_digest.specs.Padding.{bigEndian, zeros, padded}
 
+-- k bytes are k bytes long
 length-bytes : (k n : ℕ) → length (bigEndian k n) ≡ k
 unfolding bigEndian
 length-bytes zero n = refl
@@ -60,12 +61,13 @@ after-one m i h =
     let l : length m ≤ i = omega arith in
     past m _ i l ∙ ap (λ (k : ℕ). getD (0x80 ∷ (replicate (zeros (length m)) 0 ++ bigEndian 8 (length m * 8))) k 0) e
 
--- a place among zeros, and one past them
+-- a place among zeros
 among : (z j : ℕ) (y : List ℕ) → j < z → 0 ≡ getD (replicate z 0 ++ y) j 0
 among z j y h =
     let l : j < length (replicate {A = ℕ} z 0) = rw (length-replicate {A = ℕ} z 0) h in
     sym (List·getD-append (replicate z 0) y 0 j l ∙ getD-replicate z j 0 0 h)
 
+-- a place past zeros
 beyond : (z j : ℕ) (y : List ℕ) → z ≤ j → getD y (j - z) 0 ≡ getD (replicate z 0 ++ y) j 0
 beyond z j y h =
     let l : length (replicate {A = ℕ} z 0) ≤ j = rw (length-replicate {A = ℕ} z 0) h in

@@ -1,4 +1,4 @@
--- Worked digests, by computation: the empty message, and the two examples of FIPS 180-4 with one block and with two.
+-- Worked digests, by computation: the empty message, and NIST's examples of one block and of two.
 use mathlib.Core.Path.{_≡_, refl}
 use mathlib.Core.List.{List, [], _∷_}
 use Prim.Native.Nat.{ℕ}

@@ -1,11 +1,11 @@
 -- Laws on the message schedule in an array that is filled word by word.
-use mathlib.Core.Path.{_≡_, refl, sym, ap, _∙_}
-use mathlib.Core.List.{List, [], _∷_, _++_}
-use Prim.Native.Nat.{ℕ, zero, suc, _+_, _-_, _*_, _/_, _%_, _^_, _≤_, _<_}
+use mathlib.Core.Path.{_≡_, refl, _∙_}
+use mathlib.Core.List.{List}
+use Prim.Native.Nat.{ℕ, _+_, _-_, _≤_, _<_}
 use native.Mathlib.Omega.{arith}
 use native.Mathlib.Numerals.{add-one}
 use lib.Dec.{ltb}
-use lib.ListN.{length, getD, take, set}
+use lib.ListN.{length, take, set}
 use lib.Seq.{getD-take, take-suc-set}
 use mathlib.Core.Bool.{Bool, true, false}
 use borrow.Author.Tests.{ltb-false}
@@ -21,6 +21,7 @@ before w t h =
     let d : t - 16 < t = omega arith in
     rw (getD-take t w (t - 2) 0 a, getD-take t w (t - 7) 0 b, getD-take t w (t - 15) 0 c, getD-take t w (t - 16) 0 d)
 
+-- so W_t is the same of the whole array
 word-of : (m : List ℕ) (at : ℕ) (w : List ℕ) (t : ℕ) → scheduleWord m at (take t w) t ≡ scheduleWord m at w t
 unfolding scheduleWord
 word-of m at w t = go (ltb t 16) refl

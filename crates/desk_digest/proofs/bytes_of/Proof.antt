@@ -4,9 +4,6 @@ use Rattle.desk_digest.specs.Sha256.{bytesOf}
 use borrow.Author.Needs.{needs}
 use Rattle.desk_digest.proofs.bytes_of.Statement.{statement}
 use Rattle.desk_digest.proofs.bytes_of.Tie as tie
-use Rattle.desk_digest.proofs.bytes_of.Reads as reads
-use Rattle.desk_digest.proofs.bytes_of.Lts as lts
-use Rattle.desk_digest.proofs.put_word.Reads as put-word-reads
 
 put-word-requires : tie.Need-put-word-requires
 put-word-requires c κs = search needs

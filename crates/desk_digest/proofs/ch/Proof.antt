@@ -2,8 +2,6 @@ use mathlib.Core.Path.{refl}
 use Rattle.desk_digest.specs.Words.{Ch, complement}
 use Rattle.desk_digest.proofs.ch.Statement.{statement}
 use Rattle.desk_digest.proofs.ch.Tie as tie
-use Rattle.desk_digest.proofs.ch.Reads as reads
-use Rattle.desk_digest.proofs.ch.Lts as lts
 
 returns : tie.Need-returns
 unfolding Ch complement

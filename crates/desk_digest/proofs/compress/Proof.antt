@@ -1,5 +1,5 @@
 use mathlib.Core.Path.{_≡_, refl, _∙_}
-use Prim.Native.Nat.{ℕ, _-_, _≤_}
+use Prim.Native.Nat.{_-_, _≤_}
 use native.Mathlib.Omega.{arith}
 use native.Mathlib.Numerals.{add-one}
 use borrow.Author.Needs.{needs}
@@ -7,10 +7,6 @@ use Rattle.desk_digest.specs.Constants.{constants}
 use Rattle.desk_digest.specs.Sha256.{rounds, compress}
 use Rattle.desk_digest.proofs.compress.Statement.{statement}
 use Rattle.desk_digest.proofs.compress.Tie as tie
-use Rattle.desk_digest.proofs.compress.Reads as reads
-use Rattle.desk_digest.proofs.compress.Lts as lts
-use Rattle.desk_digest.proofs.round.Reads as round-reads
-use Rattle.desk_digest.proofs.sums.Reads as sums-reads
 
 abbrev Inv-loop : tie.InvT-loop
 Inv-loop s w turned₀ t₀ turned t = (t ≤ 64) × (turned ≡ rounds s w t)

@@ -3,11 +3,6 @@ use mathlib.Core.Path.{_∙_}
 use borrow.Author.Needs.{needs}
 use Rattle.desk_digest.proofs.first_sum.Statement.{statement}
 use Rattle.desk_digest.proofs.first_sum.Tie as tie
-use Rattle.desk_digest.proofs.first_sum.Reads as reads
-use Rattle.desk_digest.proofs.first_sum.Lts as lts
-use Rattle.desk_digest.proofs.ch.Reads as ch-reads
-use Rattle.desk_digest.proofs.plus.Reads as plus-reads
-use Rattle.desk_digest.proofs.sum1.Reads as sum1-reads
 
 sum1-requires : tie.Need-sum1-requires
 sum1-requires c κs = search needs

@@ -2,8 +2,6 @@ use mathlib.Core.Path.{refl}
 use Rattle.desk_digest.specs.Constants.{initial}
 use Rattle.desk_digest.proofs.initial.Statement.{statement}
 use Rattle.desk_digest.proofs.initial.Tie as tie
-use Rattle.desk_digest.proofs.initial.Reads as reads
-use Rattle.desk_digest.proofs.initial.Lts as lts
 
 returns : tie.Need-returns
 unfolding initial

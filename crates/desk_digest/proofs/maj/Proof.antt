@@ -2,8 +2,6 @@ use mathlib.Core.Path.{refl}
 use Rattle.desk_digest.specs.Words.{Maj}
 use Rattle.desk_digest.proofs.maj.Statement.{statement}
 use Rattle.desk_digest.proofs.maj.Tie as tie
-use Rattle.desk_digest.proofs.maj.Reads as reads
-use Rattle.desk_digest.proofs.maj.Lts as lts
 
 returns : tie.Need-returns
 unfolding Maj

@@ -3,11 +3,6 @@ use mathlib.Core.Path.{_∙_}
 use borrow.Author.Needs.{needs}
 use Rattle.desk_digest.proofs.mixed.Statement.{statement}
 use Rattle.desk_digest.proofs.mixed.Tie as tie
-use Rattle.desk_digest.proofs.mixed.Reads as reads
-use Rattle.desk_digest.proofs.mixed.Lts as lts
-use Rattle.desk_digest.proofs.plus.Reads as plus-reads
-use Rattle.desk_digest.proofs.sigma0.Reads as sigma0-reads
-use Rattle.desk_digest.proofs.sigma1.Reads as sigma1-reads
 
 sub-sigma1 : tie.Need-sub-sigma1
 sub-sigma1 c = search needs

@@ -2,9 +2,6 @@ use Rattle.desk_digest.specs.Words.{_⊞_}
 use borrow.Author.Needs.{needs}
 use Rattle.desk_digest.proofs.plus.Statement.{statement}
 use Rattle.desk_digest.proofs.plus.Tie as tie
-use Rattle.desk_digest.proofs.plus.Reads as reads
-use Rattle.desk_digest.proofs.plus.Lts as lts
-use Rattle.std.proofs.num.wrapping_add_u32.Reads as wrapping-add-u32-reads
 
 wrapping-add-u32-requires : tie.Need-wrapping-add-u32-requires
 wrapping-add-u32-requires c κs = search needs

@@ -1,11 +1,8 @@
 use native.Mathlib.Nat.{div-one}
-use mathlib.Core.Path.{refl}
 use Rattle.desk_digest.specs.Padding.{bigEndian}
 use borrow.Author.Needs.{needs}
 use Rattle.desk_digest.proofs.put_word.Statement.{statement}
 use Rattle.desk_digest.proofs.put_word.Tie as tie
-use Rattle.desk_digest.proofs.put_word.Reads as reads
-use Rattle.desk_digest.proofs.put_word.Lts as lts
 
 cast-out : tie.Need-cast-out
 cast-out c = search needs

@@ -3,8 +3,6 @@ use Rattle.desk_digest.specs.Words.{rotr}
 use borrow.Author.Needs.{needs}
 use Rattle.desk_digest.proofs.rotr.Statement.{statement}
 use Rattle.desk_digest.proofs.rotr.Tie as tie
-use Rattle.desk_digest.proofs.rotr.Reads as reads
-use Rattle.desk_digest.proofs.rotr.Lts as lts
 
 shr-result : tie.Need-shr-result
 shr-result c = search needs

@@ -2,11 +2,6 @@ use Rattle.desk_digest.specs.Sha256.{round, turned}
 use borrow.Author.Needs.{needs}
 use Rattle.desk_digest.proofs.round.Statement.{statement}
 use Rattle.desk_digest.proofs.round.Tie as tie
-use Rattle.desk_digest.proofs.round.Reads as reads
-use Rattle.desk_digest.proofs.round.Lts as lts
-use Rattle.desk_digest.proofs.first_sum.Reads as first-sum-reads
-use Rattle.desk_digest.proofs.plus.Reads as plus-reads
-use Rattle.desk_digest.proofs.second_sum.Reads as second-sum-reads
 
 first-sum-requires : tie.Need-first-sum-requires
 first-sum-requires c κs = search needs

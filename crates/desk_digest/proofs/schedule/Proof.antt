@@ -1,5 +1,5 @@
 use mathlib.Core.Path.{_≡_, refl, sym, ap, _∙_}
-use Prim.Native.Nat.{ℕ, _-_, _≤_, _<_}
+use Prim.Native.Nat.{_-_, _≤_}
 use native.Mathlib.Omega.{arith}
 use borrow.Author.Needs.{needs}
 use lib.ListN.{length, take, length-set}
@@ -9,9 +9,6 @@ use Rattle.desk_digest.specs.Sha256.{schedule}
 use Rattle.desk_digest.proofs.Schedules.{filled}
 use Rattle.desk_digest.proofs.schedule.Statement.{statement}
 use Rattle.desk_digest.proofs.schedule.Tie as tie
-use Rattle.desk_digest.proofs.schedule.Reads as reads
-use Rattle.desk_digest.proofs.schedule.Lts as lts
-use Rattle.desk_digest.proofs.schedule_word.Reads as schedule-word-reads
 
 abbrev Inv-loop : tie.InvT-loop
 Inv-loop bytes at w₀ t₀ w t = (t ≤ 64) × (length w ≡ 64) × (take t w ≡ schedule (padded bytes) at t)

@@ -1,15 +1,9 @@
-use mathlib.Core.Path.{_≡_, sym, ap, _∙_}
-use native.Mathlib.Omega.{arith}
 use Rattle.desk_digest.specs.Sha256.{scheduleWord}
 use borrow.Author.Tests.{lt-ltb, le-ltb}
 use Rattle.desk_digest.proofs.Paddings.{inside}
 use borrow.Author.Needs.{needs}
 use Rattle.desk_digest.proofs.schedule_word.Statement.{statement}
 use Rattle.desk_digest.proofs.schedule_word.Tie as tie
-use Rattle.desk_digest.proofs.schedule_word.Reads as reads
-use Rattle.desk_digest.proofs.schedule_word.Lts as lts
-use Rattle.desk_digest.proofs.mixed.Reads as mixed-reads
-use Rattle.desk_digest.proofs.padding.word_at.Reads as word-at-reads
 
 mul-word-at : tie.Need-mul-word-at
 mul-word-at c = search needs

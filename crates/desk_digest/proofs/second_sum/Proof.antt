@@ -2,11 +2,6 @@ use Rattle.desk_digest.specs.Sha256.{T2}
 use borrow.Author.Needs.{needs}
 use Rattle.desk_digest.proofs.second_sum.Statement.{statement}
 use Rattle.desk_digest.proofs.second_sum.Tie as tie
-use Rattle.desk_digest.proofs.second_sum.Reads as reads
-use Rattle.desk_digest.proofs.second_sum.Lts as lts
-use Rattle.desk_digest.proofs.maj.Reads as maj-reads
-use Rattle.desk_digest.proofs.plus.Reads as plus-reads
-use Rattle.desk_digest.proofs.sum0.Reads as sum0-reads
 
 sum0-requires : tie.Need-sum0-requires
 sum0-requires c κs = search needs

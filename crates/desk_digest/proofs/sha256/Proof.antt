@@ -1,5 +1,5 @@
 use mathlib.Core.Path.{_≡_, _∙_}
-use Prim.Native.Nat.{ℕ, _-_, _/_, _≤_}
+use Prim.Native.Nat.{_-_, _/_, _≤_}
 use native.Mathlib.Omega.{arith}
 use native.Mathlib.Numerals.{add-one}
 use borrow.Author.Needs.{needs}
@@ -9,12 +9,6 @@ use Rattle.desk_digest.specs.Sha256.{hash, sha256}
 use Rattle.desk_digest.proofs.Paddings.{padded-length}
 use Rattle.desk_digest.proofs.sha256.Statement.{statement}
 use Rattle.desk_digest.proofs.sha256.Tie as tie
-use Rattle.desk_digest.proofs.sha256.Reads as reads
-use Rattle.desk_digest.proofs.sha256.Lts as lts
-use Rattle.desk_digest.proofs.bytes_of.Reads as bytes-of-reads
-use Rattle.desk_digest.proofs.compress.Reads as compress-reads
-use Rattle.desk_digest.proofs.initial.Reads as initial-reads
-use Rattle.desk_digest.proofs.schedule.Reads as schedule-reads
 
 abbrev Inv-loop : tie.InvT-loop
 Inv-loop bytes count s₀ i₀ s i = (i ≤ count) × (s ≡ hash (padded bytes) i)

@@ -2,9 +2,6 @@ use Rattle.desk_digest.specs.Words.{σ0, shr}
 use borrow.Author.Needs.{needs}
 use Rattle.desk_digest.proofs.sigma0.Statement.{statement}
 use Rattle.desk_digest.proofs.sigma0.Tie as tie
-use Rattle.desk_digest.proofs.sigma0.Reads as reads
-use Rattle.desk_digest.proofs.sigma0.Lts as lts
-use Rattle.desk_digest.proofs.rotr.Reads as rotr-reads
 
 rotr-requires : tie.Need-rotr-requires
 rotr-requires c κs = search needs

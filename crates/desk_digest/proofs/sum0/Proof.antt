@@ -2,9 +2,6 @@ use Rattle.desk_digest.specs.Words.{Σ0}
 use borrow.Author.Needs.{needs}
 use Rattle.desk_digest.proofs.sum0.Statement.{statement}
 use Rattle.desk_digest.proofs.sum0.Tie as tie
-use Rattle.desk_digest.proofs.sum0.Reads as reads
-use Rattle.desk_digest.proofs.sum0.Lts as lts
-use Rattle.desk_digest.proofs.rotr.Reads as rotr-reads
 
 rotr-requires : tie.Need-rotr-requires
 rotr-requires c κs = search needs

@@ -2,9 +2,6 @@ use Rattle.desk_digest.specs.Sha256.{sums}
 use borrow.Author.Needs.{needs}
 use Rattle.desk_digest.proofs.sums.Statement.{statement}
 use Rattle.desk_digest.proofs.sums.Tie as tie
-use Rattle.desk_digest.proofs.sums.Reads as reads
-use Rattle.desk_digest.proofs.sums.Lts as lts
-use Rattle.desk_digest.proofs.plus.Reads as plus-reads
 
 plus-requires : tie.Need-plus-requires
 plus-requires c κs = search needs

@@ -4,8 +4,6 @@ use lib.Dec.{lit<}
 use borrow.Author.Needs.{needs}
 use Rattle.desk_digest.proofs.padding.length_byte.Statement.{statement}
 use Rattle.desk_digest.proofs.padding.length_byte.Tie as tie
-use Rattle.desk_digest.proofs.padding.length_byte.Reads as reads
-use Rattle.desk_digest.proofs.padding.length_byte.Lts as lts
 
 mul-result : tie.Need-mul-result
 mul-result c = search needs

@@ -1,12 +1,9 @@
 use Rattle.desk_digest.proofs.Paddings.{padded-length, at-message, at-one, at-zero, at-length}
-use mathlib.Core.Path.{_≡_, sym, ap, _∙_}
+use mathlib.Core.Path.{_∙_}
 use native.Mathlib.Omega.{arith}
 use borrow.Author.Needs.{needs}
 use Rattle.desk_digest.proofs.padding.padded_byte.Statement.{statement}
 use Rattle.desk_digest.proofs.padding.padded_byte.Tie as tie
-use Rattle.desk_digest.proofs.padding.padded_byte.Reads as reads
-use Rattle.desk_digest.proofs.padding.padded_byte.Lts as lts
-use Rattle.desk_digest.proofs.padding.length_byte.Reads as length-byte-reads
 
 shared-slice-read-result : tie.Need-shared-slice-read-result
 shared-slice-read-result c = search needs

@@ -3,9 +3,6 @@ use Rattle.desk_digest.proofs.Paddings.{inside}
 use borrow.Author.Needs.{needs}
 use Rattle.desk_digest.proofs.padding.word_at.Statement.{statement}
 use Rattle.desk_digest.proofs.padding.word_at.Tie as tie
-use Rattle.desk_digest.proofs.padding.word_at.Reads as reads
-use Rattle.desk_digest.proofs.padding.word_at.Lts as lts
-use Rattle.desk_digest.proofs.padding.padded_byte.Reads as padded-byte-reads
 
 padded-byte-requires : tie.Need-padded-byte-requires
 padded-byte-requires c κs = search needs
