@@ -111,9 +111,26 @@ fn put_no_numbers(out: &mut [u8], at: usize) -> usize {
     )
 }
 
+// Puts bytes as hexadecimal digits.
+fn put_bytes(bytes: &[u8], out: &mut [u8], at: usize) -> usize {
+    let mut next = at;
+    let mut i = 0;
+    while i < bytes.len() {
+        next = put_hex(bytes[i], out, next);
+        i += 1;
+    }
+    next
+}
+
 // Puts the digest of a file that was read to its end, and null for a longer one.
 fn put_digest(file: &[u8], out: &mut [u8], at: usize) -> usize {
-    put(out, at, b",\"sha256\":null")
+    if LONGEST_FILE < file.len() {
+        return put(out, at, b",\"sha256\":null");
+    }
+    let digest = desk_digest::sha256(file);
+    let a = put(out, at, b",\"sha256\":\"");
+    let b = put_bytes(&digest, out, a);
+    put(out, b, b"\"")
 }
 
 // Puts the end of an object: the revision of the desk.

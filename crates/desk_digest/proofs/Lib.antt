@@ -1,0 +1,3 @@
+pub mod Paddings
+pub mod Schedules
+pub mod Samples

@@ -1,0 +1,4 @@
+pub mod Words
+pub mod Constants
+pub mod Padding
+pub mod Sha256
