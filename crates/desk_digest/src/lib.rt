@@ -4,9 +4,10 @@ mod padding;
 
 ghost use mathlib.Core.Path.{_≡_};
 ghost use Prim.Native.Nat.{_+_, _/_, _%_, _^_, _≤_, _<_};
+ghost use lib.Bits.{bitXor};
 ghost use lib.ListN.{length};
 ghost use Rattle.words.specs.Blocks.{puts};
-ghost use Rattle.desk_digest.specs.Words.{_⊞_, rotr, Ch, Maj, Σ0, Σ1, σ0, σ1};
+ghost use Rattle.desk_digest.specs.Words.{_⊞_, shr, rotr, Ch, Maj};
 ghost use Rattle.desk_digest.specs.Padding.{bigEndian, padded};
 ghost use Rattle.desk_digest.specs.Constants.{initial};
 ghost use Rattle.desk_digest.specs.Sha256.{mixed, scheduleWord, schedule, T1, T2, round, sums, compress, bytesOf, sha256};
@@ -54,32 +55,20 @@ fn maj(x: u32, y: u32, z: u32) -> u32
     (x & y) ^ (x & z) ^ (y & z)
 }
 
-// Σ0 of a round.
-fn sum0(x: u32) -> u32
-    ensures { λ r. ⌜ r ≡ Σ0 x ⌝ }
+// Three rotations of a word, joined by exclusive or: Σ0 and Σ1 of a round.
+fn rotations(x: u32, i: u32, j: u32, k: u32) -> u32
+    requires { ⌜ (0 < i) × (i < 32) × (0 < j) × (j < 32) × (0 < k) × (k < 32) ⌝ }
+    ensures { λ r. ⌜ r ≡ bitXor (bitXor (rotr i x) (rotr j x)) (rotr k x) ⌝ }
 {
-    rotr(x, 2) ^ rotr(x, 13) ^ rotr(x, 22)
+    rotr(x, i) ^ rotr(x, j) ^ rotr(x, k)
 }
 
-// Σ1 of a round.
-fn sum1(x: u32) -> u32
-    ensures { λ r. ⌜ r ≡ Σ1 x ⌝ }
+// Two rotations of a word and a shift, joined by exclusive or: σ0 and σ1 of the message schedule.
+fn rotations_shift(x: u32, i: u32, j: u32, k: u32) -> u32
+    requires { ⌜ (0 < i) × (i < 32) × (0 < j) × (j < 32) × (k < 32) ⌝ }
+    ensures { λ r. ⌜ r ≡ bitXor (bitXor (rotr i x) (rotr j x)) (shr k x) ⌝ }
 {
-    rotr(x, 6) ^ rotr(x, 11) ^ rotr(x, 25)
-}
-
-// σ0 of the message schedule.
-fn sigma0(x: u32) -> u32
-    ensures { λ r. ⌜ r ≡ σ0 x ⌝ }
-{
-    rotr(x, 7) ^ rotr(x, 18) ^ (x >> 3)
-}
-
-// σ1 of the message schedule.
-fn sigma1(x: u32) -> u32
-    ensures { λ r. ⌜ r ≡ σ1 x ⌝ }
-{
-    rotr(x, 17) ^ rotr(x, 19) ^ (x >> 10)
+    rotr(x, i) ^ rotr(x, j) ^ (x >> k)
 }
 
 // W_t from t = 16 on, of the words before it.
@@ -87,8 +76,8 @@ fn mixed(w: &[u32; 64], t: usize) -> u32
     requires { ⌜ (16 ≤ t) × (t < 64) ⌝ }
     ensures { λ r. ⌜ r ≡ mixed (now (w .entry)) t ⌝ }
 {
-    let x = sigma1(w[t - 2]);
-    let y = sigma0(w[t - 15]);
+    let x = rotations_shift(w[t - 2], 17, 19, 10);
+    let y = rotations_shift(w[t - 15], 7, 18, 3);
     plus(plus(plus(x, w[t - 7]), y), w[t - 16])
 }
 
@@ -122,7 +111,7 @@ fn schedule(bytes: &[u8], at: usize) -> [u32; 64]
 fn first_sum(s: Eight, k: u32, w: u32) -> u32
     ensures { λ r. ⌜ r ≡ T1 s k w ⌝ }
 {
-    let rotated = sum1(s.e);
+    let rotated = rotations(s.e, 6, 11, 25);
     let chosen = ch(s.e, s.f, s.g);
     plus(plus(plus(plus(s.h, rotated), chosen), k), w)
 }
@@ -131,7 +120,7 @@ fn first_sum(s: Eight, k: u32, w: u32) -> u32
 fn second_sum(s: Eight) -> u32
     ensures { λ r. ⌜ r ≡ T2 s ⌝ }
 {
-    plus(sum0(s.a), maj(s.a, s.b, s.c))
+    plus(rotations(s.a, 2, 13, 22), maj(s.a, s.b, s.c))
 }
 
 // One round.

@@ -1,11 +1,12 @@
+use Rattle.desk_digest.specs.Words.{Σ1}
 use Rattle.desk_digest.specs.Sha256.{T1}
 use mathlib.Core.Path.{_∙_}
 use borrow.Author.Needs.{needs}
 use Rattle.desk_digest.proofs.first_sum.Statement.{statement}
 use Rattle.desk_digest.proofs.first_sum.Tie as tie
 
-sum1-requires : tie.Need-sum1-requires
-sum1-requires c κs = search needs
+rotations-requires : tie.Need-rotations-requires
+rotations-requires c κs = search needs
 
 ch-requires : tie.Need-ch-requires
 ch-requires c κs = search needs
@@ -23,14 +24,14 @@ plus-requires-4 : tie.Need-plus-requires-4
 plus-requires-4 c κs = search needs
 
 returns : tie.Need-returns
-unfolding T1
-returns c = c .plus4 .ensures ∙ rw (c .before .plus3 .ensures, c .before .before .plus2 .ensures, c .before .before .before .plus .ensures, c .before .before .before .before .ch .ensures, c .before .before .before .before .before .sum1 .ensures)
+unfolding T1 Σ1
+returns c = c .plus4 .ensures ∙ rw (c .before .plus3 .ensures, c .before .before .plus2 .ensures, c .before .before .before .plus .ensures, c .before .before .before .before .ch .ensures, c .before .before .before .before .before .rotations .ensures)
 
 pub first-sum-spec : {M : Type 1} → statement M
 first-sum-spec =
     tie.close
     (tie.spec
-    sum1-requires
+    rotations-requires
     ch-requires
     plus-requires
     plus-requires-2

@@ -1,32 +1,33 @@
+use Rattle.desk_digest.specs.Words.{σ0, σ1}
 use Rattle.desk_digest.specs.Sha256.{mixed}
 use mathlib.Core.Path.{_∙_}
 use borrow.Author.Needs.{needs}
 use Rattle.desk_digest.proofs.mixed.Statement.{statement}
 use Rattle.desk_digest.proofs.mixed.Tie as tie
 
-sub-sigma1 : tie.Need-sub-sigma1
-sub-sigma1 c = search needs
+sub-rotations-shift : tie.Need-sub-rotations-shift
+sub-rotations-shift c = search needs
 
-mul-sigma1 : tie.Need-mul-sigma1
-mul-sigma1 c = search needs
+mul-rotations-shift : tie.Need-mul-rotations-shift
+mul-rotations-shift c = search needs
 
-element-copy-out-sigma1 : tie.Need-element-copy-out-sigma1
-element-copy-out-sigma1 c = search needs
+element-copy-out-rotations-shift : tie.Need-element-copy-out-rotations-shift
+element-copy-out-rotations-shift c = search needs
 
-sigma1-requires : tie.Need-sigma1-requires
-sigma1-requires c κs = search needs
+rotations-shift-requires : tie.Need-rotations-shift-requires
+rotations-shift-requires c κs = search needs
 
-sub-sigma0 : tie.Need-sub-sigma0
-sub-sigma0 c = search needs
+sub-rotations-shift-2 : tie.Need-sub-rotations-shift-2
+sub-rotations-shift-2 c = search needs
 
-mul-sigma0 : tie.Need-mul-sigma0
-mul-sigma0 c = search needs
+mul-rotations-shift-2 : tie.Need-mul-rotations-shift-2
+mul-rotations-shift-2 c = search needs
 
-element-copy-out-sigma0 : tie.Need-element-copy-out-sigma0
-element-copy-out-sigma0 c = search needs
+element-copy-out-rotations-shift-2 : tie.Need-element-copy-out-rotations-shift-2
+element-copy-out-rotations-shift-2 c = search needs
 
-sigma0-requires : tie.Need-sigma0-requires
-sigma0-requires c κs = search needs
+rotations-shift-requires-2 : tie.Need-rotations-shift-requires-2
+rotations-shift-requires-2 c κs = search needs
 
 sub-plus : tie.Need-sub-plus
 sub-plus c = search needs
@@ -56,21 +57,21 @@ plus-requires-3 : tie.Need-plus-requires-3
 plus-requires-3 c κs = search needs
 
 returns : tie.Need-returns
-unfolding mixed
-returns c = c .plus3 .ensures ∙ rw (c .before .before .plus2 .ensures, c .before .before .before .plus .ensures, c .before .before .before .before .before .sigma0 .ensures, c .before .before .before .before .before .before .before .sigma1 .ensures)
+unfolding mixed σ0 σ1
+returns c = c .plus3 .ensures ∙ rw (c .before .before .plus2 .ensures, c .before .before .before .plus .ensures, c .before .before .before .before .before .rotations-shift2 .ensures, c .before .before .before .before .before .before .before .rotations-shift .ensures)
 
 pub mixed-spec : {M : Type 1} → statement M
 mixed-spec =
     tie.close
     (tie.spec
-    sub-sigma1
-    mul-sigma1
-    element-copy-out-sigma1
-    sigma1-requires
-    sub-sigma0
-    mul-sigma0
-    element-copy-out-sigma0
-    sigma0-requires
+    sub-rotations-shift
+    mul-rotations-shift
+    element-copy-out-rotations-shift
+    rotations-shift-requires
+    sub-rotations-shift-2
+    mul-rotations-shift-2
+    element-copy-out-rotations-shift-2
+    rotations-shift-requires-2
     sub-plus
     mul-plus
     element-copy-out-plus

@@ -1,7 +1,6 @@
-use Rattle.desk_digest.specs.Words.{Σ1}
 use borrow.Author.Needs.{needs}
-use Rattle.desk_digest.proofs.sum1.Statement.{statement}
-use Rattle.desk_digest.proofs.sum1.Tie as tie
+use Rattle.desk_digest.proofs.rotations.Statement.{statement}
+use Rattle.desk_digest.proofs.rotations.Tie as tie
 
 rotr-requires : tie.Need-rotr-requires
 rotr-requires c κs = search needs
@@ -13,8 +12,7 @@ rotr-requires-3 : tie.Need-rotr-requires-3
 rotr-requires-3 c κs = search needs
 
 returns : tie.Need-returns
-unfolding Σ1
 returns c = rw (c .before .before .rotr .ensures, c .before .rotr2 .ensures, c .rotr3 .ensures)
 
-pub sum1-spec : {M : Type 1} → statement M
-sum1-spec = tie.close (tie.spec rotr-requires rotr-requires-2 rotr-requires-3 returns)
+pub rotations-spec : {M : Type 1} → statement M
+rotations-spec = tie.close (tie.spec rotr-requires rotr-requires-2 rotr-requires-3 returns)
