@@ -23,9 +23,9 @@ extern "C" {
 
 /* The version of the library, as CHANGELOG.md numbers it. */
 #define PANELRUE_VERSION_MAJOR 0
-#define PANELRUE_VERSION_MINOR 1
+#define PANELRUE_VERSION_MINOR 2
 #define PANELRUE_VERSION_PATCH 0
-#define PANELRUE_VERSION "0.1.0"
+#define PANELRUE_VERSION "0.2.0"
 
 /* The bytes of the longest procedure that can pass: a header, 128 functions and 4,096 nodes of 12 bytes each. */
 #define PANELRUE_LONGEST_FILE 50700
@@ -52,7 +52,7 @@ extern "C" {
 #define PANELRUE_ARITH 1u /* a division or remainder without a result */
 #define PANELRUE_ABORT 2u /* an assert failed */
 #define PANELRUE_SPENT 3u /* the allowance was used up; run again to go on */
-#define PANELRUE_FULL 4u  /* the next state would pass a limit (32 saved callers, 512 frames); running again changes nothing */
+#define PANELRUE_FULL 4u  /* the next state would pass a limit (14 saved callers, 512 frames); running again changes nothing */
 
 /* What a variable holds: the first word of a look-up's answer. */
 #define PANELRUE_NOTHING 0u

@@ -4,7 +4,7 @@ use mathlib.Core.Bool.{Bool, true, false, false≢true}
 use mathlib.Core.List.{List, [], _∷_, _++_, append-assoc}
 use Prim.Native.Nat.{ℕ, _≤_, _<_}
 use lib.ListN.{length, drop}
-use borrow.Author.Tests.{le-leb, lt-leb}
+use borrow.Author.Tests.{lt-leb}
 use Rattle.records.specs.Search.{unless}
 use Rattle.words.proofs.Tests.{eq-same}
 use Rattle.spec_language.specs.Check.{accepted, refused, questions, refuse, firstRefusal, checkOf}
@@ -22,7 +22,7 @@ use Rattle.spec_image.proofs.Sized.{file-sized, fit-narrow}
 use Rattle.spec_image.proofs.Memory.{held-whole, holds-fit}
 use Rattle.fit_state.specs.HoldsState.{HoldsState}
 use Rattle.spec_answers.specs.Answers.{roomFor, imageIn, isPresent, variableIn, memoryAnswer, lookVerdict, granted, denied, byVerdict, valueOr, lookAnswer}
-use Rattle.spec_answers.proofs.Questions.{put-after, put-early, memory-so, memory-if}
+use Rattle.spec_answers.proofs.Questions.{put-after, put-early, memory-so, memory-if, memory-unfit}
 
 -- ---- question 16
 
@@ -59,15 +59,8 @@ module _ (s m : List ℕ) where
       let b : firstRefusal (roomFor m ∷ imageIn s m ∷ []) ≡ refused 15 0 0 = rw (lt-leb size (length m) l) in
       sym (put-after (questions s) (roomFor m ∷ imageIn s m ∷ []) e ∙ b)
 
-  memory-long : checkOf s ≡ accepted → size ≤ length m → memoryAnswer s m ≡ firstRefusal (imageIn s m ∷ [])
-  unfolding checkOf memoryAnswer roomFor firstRefusal refuse unless
-  memory-long e l =
-      let b : firstRefusal (roomFor m ∷ imageIn s m ∷ []) ≡ firstRefusal (imageIn s m ∷ []) = rw (le-leb size (length m) l) in
-      put-after (questions s) (roomFor m ∷ imageIn s m ∷ []) e ∙ b
-
   pub memory-none : checkOf s ≡ accepted → size ≤ length m → fitWords (programOf s) m ≡ false → refused 16 0 0 ≡ memoryAnswer s m
-  unfolding imageIn firstRefusal refuse unless
-  memory-none e l q = sym (memory-long e l ∙ rw q)
+  memory-none e l q = sym (memory-unfit s m e l q)
 
   pub memory-held : checkOf s ≡ accepted → size ≤ length m → fitWords (programOf s) m ≡ true → accepted ≡ memoryAnswer s m
   memory-held e l q = sym (memory-if s m e l q)

@@ -50,9 +50,9 @@ activations-fail = refl
 
 -- ---- whole memories
 
--- 32 activations
+-- 14 activations
 abbrev full : State
-full = running (val (truth true)) emptyEnv 5 (replicate 64 (int 9)) (replicate 3 widest) (replicate 31 (saved 127 (int 7 ∷ []) (widest ∷ [])))
+full = running (val (truth true)) emptyEnv 5 (replicate 64 (int 9)) (replicate 3 widest) (replicate 13 (saved 127 (int 7 ∷ []) (widest ∷ [])))
 
 images-pass : map (λ s. imageOk (image s ++ (7 ∷ 8 ∷ [])))
     (main emptyEnv ∷ looping ∷ first ∷ inside ∷ full ∷ returned emptyEnv 3 ∷ State.value 3 ∷ exception arith ∷ exception abort ∷ [])
@@ -60,22 +60,26 @@ images-pass : map (λ s. imageOk (image s ++ (7 ∷ 8 ∷ [])))
 unfolding filled bit valueWords valuesWords nodesWords refWord block gathering frameWords controlWords activationWords savedActivations savedFrames headWords activationsOf framesOf image valueOk controlOk operandsOk frameOk activationOk tagOk headOk activationsOk framesOk imageOk activationOf framesHeld
 images-pass = refl
 
--- a state past a limit, and one that is not narrow
+-- so many callers beside main's empty one
+abbrev callers : ℕ → State
+callers n = running (val nothing) emptyEnv 0 [] [] (replicate n (saved 0 [] []))
+
+-- 15, 32 and 33 activations; 513 frames; 65 variables; nine operands
 images-fail : map (λ s. imageOk (image s))
-    (running (val nothing) emptyEnv 0 [] [] (replicate 32 (saved 0 [] [])) ∷ running (val nothing) emptyEnv 0 [] (replicate 513 Frame.leave) []
+    (callers 14 ∷ callers 31 ∷ callers 32 ∷ running (val nothing) emptyEnv 0 [] (replicate 513 Frame.leave) []
     ∷ running (val nothing) emptyEnv 0 (replicate 65 nothing) [] [] ∷ running (val nothing) emptyEnv 0 [] (gather (fn 0) [] (replicate 9 1) ∷ []) [] ∷ [])
-    ≡ replicate 4 false
+    ≡ replicate 6 false
 unfolding filled bit valueWords valuesWords nodesWords refWord block gathering frameWords controlWords activationWords savedActivations savedFrames headWords activationsOf framesOf image valueOk controlOk operandsOk frameOk activationOk tagOk headOk activationsOk framesOk imageOk activationOf framesHeld
 images-fail = refl
 
 -- no tag, a tag that no state has, an int where there is none, a control where there is none, a word after the control, the last word, the
--- word after the last frame's room; no activation, 33; no form, a bool of 2, a word of nothing; a frame too few, too many, and
+-- word after the last frame's room; no activation, 15, 32, 33; no form, a bool of 2, a word of nothing; a frame too few, too many, and
 -- more than words have; a word above the last activation and above the last frame
 changed-fail : map (λ c. imageOk (changed c))
     (change (main emptyEnv) 0 0 ∷ change (main emptyEnv) 0 7 ∷ change (exception arith) 1 1 ∷ change inside 1 1 ∷ change (State.value 3) 3 1 ∷ change (main emptyEnv) 2 1
-    ∷ change inside 5 1 ∷ change inside 127 1 ∷ change inside 16383 1 ∷ change inside 14720 1 ∷ change inside 2 0 ∷ change full 2 33
+    ∷ change inside 5 1 ∷ change inside 127 1 ∷ change inside 16383 1 ∷ change inside 14720 1 ∷ change inside 2 0 ∷ change full 2 15 ∷ change full 2 32 ∷ change full 2 33
     ∷ change inside 3 0 ∷ change inside 3 6 ∷ change inside 3 3 ∷ change inside 3 1 ∷ change inside 265 1 ∷ change inside 265 3 ∷ change inside 265 4294967295
     ∷ change inside 400 1 ∷ change inside 4560 9 ∷ change inside 14719 1 ∷ [])
-    ≡ replicate 22 false
+    ≡ replicate 24 false
 unfolding filled bit valueWords valuesWords nodesWords refWord block gathering frameWords controlWords activationWords savedActivations savedFrames headWords activationsOf framesOf image valueOk controlOk operandsOk frameOk activationOk tagOk headOk activationsOk framesOk imageOk activationOf framesHeld
 changed-fail = refl

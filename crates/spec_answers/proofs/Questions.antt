@@ -69,9 +69,18 @@ module _ (s m : List ℕ) where
       let r = test-passes 15 _ 0 _ (put-rest (questions s) _ e) in
       (put-front (questions s) _ e, leb-true size (length m) (r .0), test-passes 16 _ 0 [] (r .1) .0)
 
+  -- question 16 is left to decide
+  memory-long : checkOf s ≡ accepted → size ≤ length m → memoryAnswer s m ≡ firstRefusal (imageIn s m ∷ [])
+  unfolding memoryAnswer checkOf roomFor
+  memory-long e h = put-after (questions s) _ e ∙ passes-test 15 _ 0 (imageIn s m ∷ []) (le-leb size (length m) h)
+
   pub memory-if : checkOf s ≡ accepted → size ≤ length m → fitWords (programOf s) m ≡ true → memoryAnswer s m ≡ accepted
-  unfolding memoryAnswer checkOf roomFor imageIn firstRefusal
-  memory-if e h f = put-after (questions s) _ e ∙ passes-test 15 _ 0 (imageIn s m ∷ []) (le-leb size (length m) h) ∙ passes-test 16 _ 0 [] f
+  unfolding imageIn firstRefusal
+  memory-if e h f = memory-long e h ∙ passes-test 16 _ 0 [] f
+
+  pub memory-unfit : checkOf s ≡ accepted → size ≤ length m → fitWords (programOf s) m ≡ false → memoryAnswer s m ≡ refused 16 0 0
+  unfolding imageIn firstRefusal refuse unless
+  memory-unfit e h f = memory-long e h ∙ rw f
 
   -- look-up: and the current activation has the variable
   pub look-so : (x : ℕ) → lookVerdict s m x ≡ accepted → (checkOf s ≡ accepted) × (isPresent (lookUp (stateOf m) x) ≡ true)

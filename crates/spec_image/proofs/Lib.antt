@@ -10,5 +10,6 @@ pub mod Heads
 pub mod Calls
 pub mod Sized
 pub mod Memory
+pub mod Depth
 pub mod Samples
 pub mod Verdicts

@@ -77,7 +77,7 @@ rows =
     row (alone 0 5 (node 1 0 0 1 ++ node 13 0 0 2 ++ node 0 0 0 1 ++ node 12 0 0 2 ++ node 7 0 0 5)) 10000 (abort 4)
     ∷
     -- return f(), f: return f()
-    row (header 2 4 ++ function 1 0 0 0 2 ++ function 1 0 0 0 2 ++ node 5 0 1 1 ++ node 12 0 0 2 ++ node 5 0 1 1 ++ node 12 0 0 2) 10000 (Full 64)
+    row (header 2 4 ++ function 1 0 0 0 2 ++ function 1 0 0 0 2 ++ node 5 0 1 1 ++ node 12 0 0 2 ++ node 5 0 1 1 ++ node 12 0 0 2) 10000 (Full 28)
     ∷
     -- nop
     row (alone 0 1 (node 6 0 0 1)) 10000 (refused 14 1 0)

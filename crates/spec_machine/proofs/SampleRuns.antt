@@ -3,7 +3,8 @@ use mathlib.Core.Path.{_≡_, refl}
 use mathlib.Core.Bool.{true}
 use mathlib.Core.Option.{some}
 use mathlib.Core.List.{List, [], _∷_, _++_, map}
-use Prim.Native.Nat.{ℕ, _+_, _*_}
+use Prim.Native.Nat.{ℕ}
+use lib.ListN.{replicate}
 use Rattle.varset.specs.Lowest.{lowest}
 use Rattle.varset.specs.Sets.{has, none, with, without, both, either, less, below}
 use Rattle.records.specs.Bytes.{u16At, u32At}
@@ -20,8 +21,7 @@ use Rattle.arith.specs.Int as ints
 use Rattle.arith.specs.Operators as operators
 use Rattle.spec_machine.specs.File.{backwards, kids, andForm, looks, lookAt, refAt, formOf, formAt, ifForm, seqForm, seeAt, unrolled, looped, stmtAt, typesFrom, funOf, programOf}
 use Rattle.spec_machine.specs.Values.{nothing, truth, result}
-use Rattle.spec_machine.specs.Machine.{arith, main, emptyEnv}
-use Rattle.spec_machine.specs.Fit.{callerLimit}
+use Rattle.spec_machine.specs.Machine.{arith, Frame, eval, saved, main, emptyEnv, State, running}
 use Rattle.spec_machine.specs.Run.{Outcome, raised, Ran, runOf, lookUp}
 use Rattle.spec_machine.proofs.SampleFiles.{sample}
 
@@ -45,6 +45,10 @@ restored = header 2 16 ++ function 1 0 1 0 9 ++ function 1 1 1 0 7 ++ node 0 0 1
 abbrev endless : List ℕ
 endless = header 2 4 ++ function 1 0 0 0 2 ++ function 1 0 0 0 2 ++ node 5 0 1 1 ++ node 12 0 0 2 ++ node 5 0 1 1 ++ node 12 0 0 2
 
+-- its state with 14 callers, main's empty one among them, of which the next call would save the fifteenth
+abbrev deepest : State
+deepest = running (eval 0) emptyEnv 1 [] (Frame.leave ∷ []) (replicate 12 (saved 1 [] (Frame.leave ∷ [])) ++ (saved 0 [] (Frame.leave ∷ []) ∷ []))
+
 -- a file, an allowance, and the outcome and steps of its run
 pub data Row : Type 0 where
   row : List ℕ → ℕ → Outcome → ℕ → Row
@@ -66,12 +70,13 @@ ran (row s a o k) = reported (runOf (programOf s) a (main emptyEnv))
 abbrev Right : List Row → Type 0
 Right rows = map ran rows ≡ map expected rows
 
--- each allowance is used up: the last step that it allows reaches the end, or the state whose next one passes a limit
+-- the last step that an allowance has reaches the end, or the state whose next one passes a limit; there the run stands, whatever is allowed
 record Runs : Type 0 where
   sides : Right (row short 8 (Outcome.value 2) 8 ∷ row long 8 (raised arith) 8 ∷ [])
   loops : Right (row sample 56 (Outcome.value 3) 56 ∷ row again 69 (Outcome.value 2) 69 ∷ [])
   calls : Right (row restored 26 (Outcome.value 6) 26 ∷ [])
-  limits : Right (row endless (2 * callerLimit) Outcome.Spent (2 * callerLimit) ∷ row endless (1 + 2 * callerLimit) Outcome.Full (2 * callerLimit) ∷ [])
+  limits : Right (row endless 27 Outcome.Spent 27 ∷ row endless 28 Outcome.Spent 28 ∷ row endless 29 Outcome.Full 28 ∷ [])
+  stands : map (λ a. runOf (programOf endless) a (main emptyEnv) .state) (28 ∷ 29 ∷ 10000 ∷ []) ≡ replicate 3 deepest
 
 -- all runs
 runs : Runs
@@ -82,6 +87,7 @@ runs =
       loops = refl;
       calls = refl;
       limits = refl;
+      stands = refl;
     }
 
 -- a variable keeps its value after its decl is over, until the decl runs again

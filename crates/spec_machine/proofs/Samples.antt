@@ -250,10 +250,12 @@ returning =
     fits (called 4 (exec Ref.nop) (nothing ∷ []) (after 10 ∷ after 12 ∷ []) leaving) ∷ unfit (main-at (exec Ref.nop) empty []) ∷
     []
 
--- 32 callers and 512 frames are fit, one more of either is not
+-- 13 and 14 callers, main's empty one among them, are fit, and 15, 32 and 33 are not; 512 frames are fit, over one activation or
+-- over fourteen, and 513 are not; 512 frames over fifteen activations are not
 abbrev limits : List Row
 limits =
-    fits (nested 31 0) ∷ unfit (nested 32 0) ∷ fits (nested 0 511) ∷ unfit (nested 0 512) ∷ fits (nested 31 480) ∷ unfit (nested 31 481) ∷
+    fits (nested 12 0) ∷ fits (nested 13 0) ∷ unfit (nested 14 0) ∷ unfit (nested 31 0) ∷ unfit (nested 32 0) ∷
+    fits (nested 0 511) ∷ unfit (nested 0 512) ∷ fits (nested 13 498) ∷ unfit (nested 13 499) ∷ unfit (nested 14 497) ∷
     []
 
 -- two more files

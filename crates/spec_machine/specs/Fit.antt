@@ -12,9 +12,9 @@ use Rattle.spec_machine.specs.Values.{Ty, tBool, Value, nothing, int, tr
 use Rattle.spec_machine.specs.Program.{Operation, op, fn, Ref, node, ifOf, seqOf, ExprForm, const, apply, StmtForm, Program, owns, typeN, varTypes, typeOfVar, wants, gives}
 use Rattle.spec_machine.specs.Machine.{Frame, gather, and, wait, branch, check, Control, val, eval, exec, Saved, saved, RunEnv, State, exception, main, returned, running}
 
--- the limits
+-- the limits: of saved callers, main's empty one included, and of the frames of all activations together
 abbrev pub callerLimit : ℕ
-callerLimit = 32
+callerLimit = 14
 
 abbrev pub frameLimit : ℕ
 frameLimit = 512

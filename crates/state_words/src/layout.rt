@@ -34,7 +34,7 @@ pub const SLOT_ROOM: u32 = 7;
 pub const VARIABLE_ROOM: u32 = 64;
 
 // The most saved callers, main's empty one included.
-pub const CALLER_LIMIT: u32 = 32;
+pub const CALLER_LIMIT: u32 = 14;
 
 // The most saved callers without main's empty one.
 pub const SAVED_LIMIT: usize = CALLER_LIMIT as usize - 1;

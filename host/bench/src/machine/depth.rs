@@ -6,7 +6,7 @@ use generators::tree::Stmt;
 
 /// The callers and the seqs around the loop of each row.
 const DEPTHS: [(usize, usize); 8] =
-    [(2, 0), (2, 98), (2, 248), (2, 498), (8, 0), (16, 0), (31, 0), (31, 469)];
+    [(2, 0), (2, 98), (2, 248), (2, 498), (4, 0), (8, 0), (13, 0), (13, 487)];
 
 /// The steps of a timed run.
 const STEPS: u64 = 50_000;

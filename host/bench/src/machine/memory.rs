@@ -20,7 +20,7 @@ pub fn print(sides: &Sides) {
     rows(sides, "assigns that wait", frames.map(|frames| at(sides, waiting(4096), frames)));
     let frames = [2, 128, 512];
     rows(sides, "arguments that wait", frames.map(|frames| at(sides, calls(4096), frames)));
-    let files = [2, 8, 16, 31].map(|callers| deep(callers, 0, TURNS[0].1()));
+    let files = [2, 4, 8, 13].map(|callers| deep(callers, 0, TURNS[0].1()));
     rows(sides, "recursion", files.map(|file| after(sides, file, 10_000)));
     let nested = [32, 128, 500].map(|whiles| {
         let file = nested_whiles(whiles, 4088 - 2 * whiles);

@@ -5,7 +5,7 @@ use super::state::{Running, State, Value};
 use super::step::{step, Rule};
 
 /// The most saved callers, main's empty one included; each activation is entered over one.
-pub const CALLERS: usize = 32;
+pub const CALLERS: usize = 14;
 
 /// The most waiting frames over all activations.
 pub const FRAMES: usize = 512;

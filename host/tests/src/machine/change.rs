@@ -1,11 +1,13 @@
 //! Changes of one and of two words of an image.
 
 use generators::rng::Rng;
-use reference::image::{ACTIVATION, ACTIVATIONS, ACTIVATION_HEAD, FRAME, FRAMES, WORDS};
+use reference::image::{
+    ACTIVATION, ACTIVATIONS, ACTIVATION_HEAD, FRAME, FRAMES, MOST_ACTIVATIONS, WORDS,
+};
 
 /// A word that is likely to matter in an image.
 fn place(rng: &mut Rng, words: &[u32]) -> usize {
-    let activations = (words[2] as usize).min(31);
+    let activations = (words[2] as usize).min(MOST_ACTIVATIONS - 1);
     let counts = words[ACTIVATIONS..FRAMES].chunks_exact(ACTIVATION).map(|a| a[1] as usize);
     let frames = counts.sum::<usize>().min(511);
     match rng.below(10) {
@@ -62,7 +64,7 @@ fn put(rng: &mut Rng, words: &mut [u32], at: usize) -> Old {
 
 /// Gives a variable, or a frame's first slot, any value of any type.
 fn revalue(rng: &mut Rng, words: &mut [u32]) -> Vec<Old> {
-    let activation = ACTIVATIONS + ACTIVATION * rng.below((words[2] as usize).clamp(1, 32));
+    let activation = ACTIVATIONS + ACTIVATION * rng.below((words[2] as usize).clamp(1, MOST_ACTIVATIONS));
     let vars = (words[activation + 2] as usize).min(64);
     let at = if rng.one_in(4) {
         FRAMES + FRAME * rng.below((words[activation + 1] as usize).clamp(1, 512)) + 4
@@ -79,7 +81,7 @@ fn revalue(rng: &mut Rng, words: &mut [u32]) -> Vec<Old> {
 
 /// The word of a value that is held, if the one that was tried is.
 fn held(rng: &mut Rng, words: &[u32]) -> Option<usize> {
-    let activation = ACTIVATIONS + ACTIVATION * rng.below((words[2] as usize).clamp(1, 32));
+    let activation = ACTIVATIONS + ACTIVATION * rng.below((words[2] as usize).clamp(1, MOST_ACTIVATIONS));
     let vars = (words[activation + 2] as usize).min(64);
     let ty = activation + ACTIVATION_HEAD + 2 * rng.below(vars);
     (words[0] == 2 && words[ty] != 0).then_some(ty + 1)

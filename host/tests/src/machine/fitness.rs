@@ -5,7 +5,7 @@ use super::Entries;
 use crate::report::Outcome;
 use generators::tree::*;
 use generators::File;
-use reference::image::{encode_into, WORDS};
+use reference::image::{encode_into, MOST_ACTIVATIONS, MOST_FRAMES, WORDS};
 use reference::machine::{Activation, Control, Frame, Ref, Running, State, Value};
 
 mod sample;
@@ -63,25 +63,42 @@ pub fn outcome(side: &Entries) -> Outcome {
             }
             trial.memory_check();
             outcome.add(trial.outcome);
-        } else if case.state.within_limits() {
-            outcome.add(refused(side, &model, &case));
+        } else if has_room(&case.state) {
+            outcome.add(refused(side, &model, case.name, memory_of(&case.state)));
         }
+    }
+    // A count that says more activations than there are is unfit where it is past the limit, whatever stands in their places.
+    for count in (15..=33).chain([u32::MAX]) {
+        let mut memory = memory_of(&sample::tower(14, 0));
+        memory[2] = count;
+        outcome.add(refused(side, &model, "14 activations with another count", memory));
     }
     outcome
 }
 
-/// An unfit image gives 16 and stays as it is.
-fn refused(side: &Entries, model: &Model, case: &Case) -> Outcome {
-    let mut outcome = Outcome::default();
+/// Whether an image has places for the activations and the frames of a state.
+fn has_room(state: &State) -> bool {
+    let State::Running(running) = state else { return true };
+    running.activations.len() <= MOST_ACTIVATIONS && running.frames() <= MOST_FRAMES
+}
+
+/// A memory with the image of a state and three words more.
+fn memory_of(state: &State) -> Vec<u32> {
     let mut memory = vec![7; WORDS + 3];
-    encode_into(&case.state, &mut memory);
+    encode_into(state, &mut memory);
+    memory
+}
+
+/// An unfit memory gives 16 and stays as it is.
+fn refused(side: &Entries, model: &Model, name: &str, mut memory: Vec<u32>) -> Outcome {
+    let mut outcome = Outcome::default();
     let before = memory.clone();
     let run = (side.run)(&model.file, &mut memory, 5).err();
     let checked = (side.memory_check)(&model.file, &memory);
     let looked = (side.look_up)(&model.file, &memory, 0).err();
     for got in [checked, run, looked] {
-        outcome.compare(|| case.name.to_string(), &model.file, Some((16, 0, 0)), got);
+        outcome.compare(|| name.to_string(), &model.file, Some((16, 0, 0)), got);
     }
-    outcome.words(|| case.name.to_string(), &model.file, &before, &memory);
+    outcome.words(|| name.to_string(), &model.file, &before, &memory);
     outcome
 }

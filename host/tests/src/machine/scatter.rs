@@ -41,7 +41,7 @@ fn sparse(rng: &mut Rng, words: &mut [u32]) {
 /// A running head with activations and frames in their places, whose words are random.
 fn laid_out(rng: &mut Rng, program: &Program, words: &mut [u32]) {
     words.fill(0);
-    let depth = if rng.one_in(8) { rng.between(1, 32) } else { rng.between(1, 2) };
+    let depth = if rng.one_in(8) { rng.between(1, 16) } else { rng.between(1, 2) };
     let nodes = program.functions[0].nodes.len();
     words[0] = 2;
     words[2] = depth as u32;

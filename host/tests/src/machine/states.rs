@@ -73,7 +73,11 @@ impl<'a> States<'a> {
                 _ => State::Abort,
             };
         }
-        let depth = if rng.one_in(30) { rng.between(28, 32) } else { rng.between(1, 4) };
+        let depth = match rng.below(120) {
+            0 => rng.between(17, 32),
+            1..=3 => rng.between(12, 16),
+            _ => rng.between(1, 4),
+        };
         let room = if rng.one_in(30) { 512 / depth } else { 5.min(512 / depth) };
         let mut activations = Vec::new();
         let mut function = 0;

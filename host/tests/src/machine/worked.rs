@@ -29,6 +29,13 @@ pub fn calls_itself() -> File {
     file(&[f(), f()])
 }
 
+/// `return f(n)` with f(n) `if(n == 0, return 0, return f(n - 1))`, which saves n + 2 callers, main's empty one among them.
+fn counts_down(n: i32) -> File {
+    let again = ret(call(1, vec![op(SUB, var(0), int(1))]));
+    let body = if_else(op(EQ, var(0), int(0)), ret(int(0)), again);
+    file(&[function(INT, 0, ret(call(1, vec![int(n)]))), taking(INT, 1, 0, 1, body)])
+}
+
 /// The paper's rows that run.
 pub fn table() -> Vec<Row> {
     let zero = || main(0, ret(int(0)));
@@ -46,7 +53,7 @@ pub fn table() -> Vec<Row> {
         operator("return 1<<33", SHL, 1, 33, 2),
         operator("return −1>>1", SHR, -1, 1, -1),
         row("seq(assert false, return 0)", main(0, abort), Abort, 4),
-        row("return f(), f: return f()", calls_itself(), Full, 64),
+        row("return f(), f: return f()", calls_itself(), Full, 28),
         spent,
     ]
 }
@@ -164,14 +171,19 @@ fn others() -> Vec<Row> {
         row("true && 1/0 == 0", guarded(true), Arith, 8),
         row("eight arguments", eight(), Value(-7), 20),
         row("an assigned parameter", assigned_parameter(), Value(5), 17),
-        row("main calls main", main(0, ret(call(0, vec![]))), Full, 64),
+        row("main calls main", main(0, ret(call(0, vec![]))), Full, 28),
         row("code after a return", main(0, seq(ret(int(1)), nop())), Value(1), 5),
         row("a procedure", procedure(), Value(7), 11),
         allowed("return 0 in 0", main(0, ret(int(0))), 0, (Spent, 0)),
         allowed("return 0 in 4", main(0, ret(int(0))), 4, (Value(0), 4)),
-        allowed("return f() in 64", calls_itself(), 64, (Spent, 64)),
-        allowed("return f() in 65", calls_itself(), 65, (Full, 64)),
-        allowed("return f() without end", calls_itself(), u64::MAX, (Full, 64)),
+        allowed("return f() in 27", calls_itself(), 27, (Spent, 27)),
+        allowed("return f() in 28", calls_itself(), 28, (Spent, 28)),
+        allowed("return f() in 29", calls_itself(), 29, (Full, 28)),
+        allowed("return f() without end", calls_itself(), u64::MAX, (Full, 28)),
+        row("return f(11), f counts down", counts_down(11), Value(0), 168),
+        row("return f(12), f counts down", counts_down(12), Value(0), 182),
+        row("return f(13), f counts down", counts_down(13), Full, 172),
+        row("return f(30), f counts down", counts_down(30), Full, 172),
         allowed("while(true, nop) in 5,002", turns(), 5_002, (Spent, 5_002)),
     ]
 }

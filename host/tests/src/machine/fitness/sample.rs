@@ -66,7 +66,7 @@ fn procedure(control: Control, vars: &[Value], frames: &[Frame]) -> State {
 }
 
 /// So many activations of main, each waiting in a return but the last, which has so many frames more.
-fn tower(activations: usize, waits: usize) -> State {
+pub fn tower(activations: usize, waits: usize) -> State {
     let mut all = vec![main_waits(); activations - 1];
     let frames = [vec![W(Nop); waits], vec![W(N(9))]].concat();
     all.push(act(0, &[Empty, Empty], &frames));
@@ -111,9 +111,10 @@ fn fit() -> Vec<Named> {
         ("nothing over discard", alone(V(Empty), &none, &[Frame::Discard, W(N(9))])),
         ("a bool over discard", alone(V(Bool(true)), &none, &[Frame::Discard, W(N(9))])),
         ("main calls main", over(S(N(9)), vec![main_waits(), act(0, &none, &[])])),
-        ("32 activations", tower(32, 0)),
+        ("13 activations", tower(13, 0)),
+        ("14 activations", tower(14, 0)),
         ("512 frames", tower(1, 511)),
-        ("512 frames in 32 activations", tower(32, 480)),
+        ("512 frames in 14 activations", tower(14, 498)),
         ("a while's if that waits", alone(S(Nop), &[Int(1), Bool(false)], &[W(IfOf(13)), W(N(9))])),
         ("a variable out of scope", alone(S(N(9)), &[Int(3), Bool(true)], &[])),
     ]
@@ -163,9 +164,12 @@ fn unfit() -> Vec<Named> {
         ("a bool for an int", arguments(&[Bool(true)], &[])),
         ("nothing to return", alone(S(Nop), &[Int(1), Bool(true)], &[W(N(13))])),
         ("an assign of no variable", alone(V(Int(1)), &none, &[Frame::Assign(2), W(N(9))])),
+        ("15 activations", tower(15, 0)),
+        ("32 activations", tower(32, 0)),
         ("33 activations", tower(33, 0)),
         ("513 frames", tower(1, 512)),
-        ("513 frames in 32 activations", tower(32, 481)),
+        ("513 frames in 14 activations", tower(14, 499)),
+        ("512 frames in 15 activations", tower(15, 497)),
     ]
 }
 
