@@ -17,7 +17,8 @@ use Rattle.spec_machine.specs.Fit.{WithinLimits, callerLimit, frameLimit}
 use Rattle.spec_image.specs.Layout.{controlWords, Activation, activation}
 use Rattle.spec_image.specs.Image.{savedActivations, savedFrames, headWords, activationsOf, framesOf}
 use Rattle.spec_image.specs.Decode.{framesHeld, callersOf, runningOf}
-use Rattle.spec_image.proofs.Images.{length-saved, length-frames}
+use Rattle.spec_image.proofs.Images.{length-frames}
+use Rattle.spec_image.proofs.Depth.{length-callers}
 use Rattle.fit_image.specs.MemoryTest.{tagOk}
 use Rattle.fit_image.proofs.BlockTests.{zeros}
 
@@ -49,7 +50,7 @@ module _ (c : Control) where
       let n : length (take k F) ≡ k = length-take-le k F (omega arith) in
       let d : length (drop k F) ≡ length F - k = length-drop k F in
       let i = callers-cut X (drop k F) (omega arith) in
-      let a : length (callersOf X (drop k F)) ≡ length X = sym (length-saved (callersOf X (drop k F))) ∙ ap length (i .0) in
+      let a = length-callers X (drop k F) in
       let b : fit.savedFrameCount (callersOf X (drop k F)) ≡ length F - k = sym (length-frames (callersOf X (drop k F))) ∙ ap length (i .1) ∙ d in
       record {
         activations = rw (n, i .0);

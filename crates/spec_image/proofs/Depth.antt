@@ -17,7 +17,7 @@ use Rattle.spec_image.specs.Memory.{fitWords}
 use Rattle.spec_image.proofs.Memory.{holds-fit}
 
 -- each activation under the current one is a caller
-length-callers : (X : List Activation) (K : List Frame) → length (callersOf X K) ≡ length X
+pub length-callers : (X : List Activation) (K : List Frame) → length (callersOf X K) ≡ length X
 unfolding callersOf
 length-callers [] K = refl
 length-callers (activation f k η ∷ X) K = ap suc (length-callers X (drop k K))
