@@ -6,7 +6,8 @@ use mathlib.Core.Logic.{_⊎_, ⊎-elim}
 use Prim.Native.Nat.{ℕ}
 use lib.Dec.{eqb}
 use borrow.Author.Tests.{eqb-true}
-use Rattle.varset.specs.Sets.{Set, has, none, with, without, both, either, less, Sub}
+use Rattle.varset.specs.Sets.{Set, has, none, with, without, both, either, less, below, Sub}
+use Rattle.records.specs.Format.{mostVariables}
 use Rattle.records.proofs.Bools.{both-mono, and-left, and-right, and-both, or-more, by, or-cases, clash, or-last}
 use Rattle.spec_language.specs.Statements.{Read, Statement, Nop, Seq, Assign, Decl, If, While, Return, Assert, Expr}
 use Rattle.spec_language.specs.Flow.{declares, leaves, returns}
@@ -102,10 +103,10 @@ module _ {d : Set} {c r w : ℕ} where
         returning = λ z. absurd (h z);
       }
 
-  pub return-means : {e : List Read} → Covers e (has r) → has w ≡ none → Means (Return e) d c r w
-  unfolding declares leaves returns
+  pub return-means : {e : List Read} → Covers e (has r) → has w ≡ below mostVariables → Means (Return e) d c r w
+  unfolding declares leaves returns either
   return-means {e} o g =
-      record { reading = λ b k. ok-return b e .1 (o b k); setting = λ b x l. empty-member x (rw g at l); declared = λ x l. empty-member x l; returning = λ z. refl }
+      record { reading = λ b k. ok-return b e .1 (o b k); setting = λ b x l. or-last (b x) _ (rw g at l); declared = λ x l. empty-member x l; returning = λ z. refl }
 
   pub assert-means : {e : List Read} → Covers e (has r) → has w ≡ none → (c ≡ 4 → ⊥) → Means (Assert e) d c r w
   unfolding declares leaves

@@ -8,10 +8,12 @@ ghost use mathlib.Core.Bool.{true};
 ghost use mathlib.Core.List.{List};
 ghost use mathlib.Core.Logic.{_⊎_};
 ghost use Prim.Native.Nat.{_+_, _*_, _≤_, _<_};
+ghost use lib.Dec.{eqb};
 ghost use lib.ListN.{length};
 ghost use Rattle.spec_language.specs.Types.{unset};
 ghost use Rattle.records.specs.Format.{mostVariables};
-ghost use Rattle.varset.specs.Sets.{Set, has, Sub};
+ghost use Rattle.varset.specs.Lowest.{pick};
+ghost use Rattle.varset.specs.Sets.{Set, has, none, below, Sub};
 ghost use Rattle.records.specs.Fields.{kindAt, bAt};
 ghost use Rattle.spec_language.specs.Statements.{Statement, Seq, Decl, If, While, Read};
 ghost use Rattle.check_effects.specs.Effects.{Covers, Means};
@@ -121,4 +123,14 @@ pub fn plain(code: u8, reads: VarSet, sets: VarSet) -> Effect
     ensures { λ r. ⌜ (r .code ≡ code) × (r .reads ≡ reads) × (r .sets ≡ sets) ⌝ }
 {
     Effect { code, reads, sets }
+}
+
+// A return, an assert or an expression as statement, by its code: a return counts as giving every variable a value.
+pub fn of_expression(code: u8, reads: VarSet) -> Effect
+    ensures { λ r. ⌜ (r .code ≡ code) × (r .reads ≡ reads) × (has (r .sets .0) ≡ pick (eqb code 4) (below mostVariables) none) ⌝ }
+{
+    if code == 4 {
+        return plain(code, reads, VarSet::full());
+    }
+    plain(code, reads, VarSet::empty())
 }

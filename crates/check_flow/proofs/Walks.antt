@@ -4,8 +4,9 @@ use mathlib.Core.List.{List}
 use mathlib.Core.Logic.{_⊎_, inl, inr}
 use Prim.Native.Nat.{ℕ, _*_, _-_, _≤_, _<_}
 use native.Mathlib.Omega.{arith}
-use Rattle.varset.specs.Sets.{Set, has, none, with, without}
+use Rattle.varset.specs.Sets.{Set, has, none, with, without, either, below}
 use Rattle.varset.specs.declared.VarSet.{VarSet}
+use Rattle.records.specs.Format.{mostVariables}
 use Rattle.records.specs.Fields.{kindAt, bAt, sizeAt}
 use Rattle.records.specs.declared.Found.{Found}
 use Rattle.records.specs.declared.Found.the-variants.{At, Nothing}
@@ -13,7 +14,7 @@ use Rattle.spec_language.specs.Statements.{Read, Statement, Seq, Decl, If, Whil
 use Rattle.spec_language.specs.Flow.{declares, leaves, missing, lacks}
 use Rattle.spec_language.specs.Known.{Known}
 use Rattle.spec_language.proofs.Trees.{statement-seq, statement-decl, statement-if, statement-while, lacking-below}
-use Rattle.spec_language.proofs.Rules.{leaves-assign, leaves-rest, declares-rest, lacks-assign, lacks-expression, lacks-rest}
+use Rattle.spec_language.proofs.Rules.{leaves-assign, leaves-return, leaves-rest, declares-rest, lacks-assign, lacks-expression, lacks-rest}
 use Rattle.check_flow.specs.Follows.{Follows}
 use Rattle.check_flow.specs.declared.Flow.{Flow}
 
@@ -57,9 +58,17 @@ module _ (t : List ℕ) (i : ℕ) {d : Set} {r : Flow} where
   follows-assign e p q k l m =
       follows-plain k (l ∙ rw q (sym (leaves-assign t i d e p))) (declares-rest t i (λ z. omega arith) (λ z. omega arith) (λ z. omega arith) (λ z. omega arith)) (m ∙ sym (lacks-assign t i d e p))
 
--- kinds 12 to 14, and those that are no statements or nop
+  pub follows-return : {left : VarSet} {found : Found} → kindAt t i ≡ 12 → 0 < i
+      → (r .left ≡ left) × (has (r .declared .0) ≡ none) × (r .found ≡ found)
+      → has (left .0) ≡ either d (below mostVariables) → found ≡ missing (readsOf t (i - 1)) d → Follows (statementAt t i) d r
+  unfolding last
+  follows-return e p k l m =
+      follows-plain k (l ∙ sym (leaves-return t i d e p)) (declares-rest t i (λ z. omega arith) (λ z. omega arith) (λ z. omega arith) (λ z. omega arith))
+      (m ∙ sym (lacks-expression t i d (omega arith) (omega arith) p))
+
+-- kinds 13 and 14, and those that are no statements or nop
 module _ (t : List ℕ) (i : ℕ) (set : VarSet) {r : Flow} where
-  pub follows-expression : (kind : ℕ) {found : Found} → kindAt t i ≡ kind → 0 < i → 12 ≤ kind → kind < 15
+  pub follows-expression : (kind : ℕ) {found : Found} → kindAt t i ≡ kind → 0 < i → 13 ≤ kind → kind < 15
       → (r .left ≡ set) × (has (r .declared .0) ≡ none) × (r .found ≡ found)
       → found ≡ missing (readsOf t (i - 1)) (has (set .0)) → Follows (statementAt t i) (has (set .0)) r
   unfolding last
@@ -76,7 +85,7 @@ module _ (t : List ℕ) (i : ℕ) (set : VarSet) {r : Flow} where
       o : (kindAt t i < 7) ⊎ (15 ≤ kindAt t i)
       o = rw e h
 
-      wider : (kindAt t i < 7) ⊎ (15 ≤ kindAt t i) → (kindAt t i < 7) ⊎ (12 ≤ kindAt t i)
+      wider : (kindAt t i < 7) ⊎ (15 ≤ kindAt t i) → (kindAt t i < 7) ⊎ (13 ≤ kindAt t i)
       wider (inl l) = inl l
       wider (inr l) = inr (omega arith)
 
@@ -85,8 +94,8 @@ module _ (t : List ℕ) (i : ℕ) (set : VarSet) {r : Flow} where
       none-declared (inr l) = declares-rest t i (λ z. omega arith) (λ z. omega arith) (λ z. omega arith) (λ z. omega arith)
 
 -- what the arms before leave of a range
-pub from-twelve : (k : ℕ) → 7 ≤ k → (k ≡ 7 → ⊥) → (k ≡ 8 → ⊥) → (k ≡ 9 → ⊥) → (k ≡ 10 → ⊥) → (k ≡ 11 → ⊥) → 12 ≤ k
-from-twelve k l a b c d e = omega arith
+pub from-thirteen : (k : ℕ) → 7 ≤ k → (k ≡ 7 → ⊥) → (k ≡ 8 → ⊥) → (k ≡ 9 → ⊥) → (k ≡ 10 → ⊥) → (k ≡ 11 → ⊥) → (k ≡ 12 → ⊥) → 13 ≤ k
+from-thirteen k l a b c d e f = omega arith
 
 -- what the last of n nodes lacks is one of them
 pub lacking-within : {t : List ℕ} {n : ℕ} (d : Set) {r : Found} → Known t n → 1 ≤ n → r ≡ lacks (statementAt t (n - 1)) d → (i x : ℕ) → r ≡ At i x → i < n

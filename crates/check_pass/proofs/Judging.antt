@@ -8,7 +8,9 @@ use native.Mathlib.Omega.{arith}
 use lib.Dec.{eqb, leb, ltb}
 use lib.ListN.{getD}
 use borrow.Author.Tests.{eqb-true, leb-true, ltb-true, lt-ltb, le-ltb, not-true}
-use Rattle.varset.specs.Sets.{Set, has, none, with, either}
+use Rattle.varset.specs.Lowest.{pick}
+use Rattle.varset.specs.Sets.{Set, has, none, with, either, below}
+use Rattle.records.specs.Format.{mostVariables}
 use Rattle.records.specs.Fields.{kindAt, bAt, sizeAt}
 use Rattle.records.specs.Children.{arities, arityOf, arityAt}
 use Rattle.records.proofs.Bools.{and-left, and-right, or-more, or-last}
@@ -201,7 +203,7 @@ module _ (s : List ℕ) (f : ℕ) (t : List ℕ) (n i : ℕ) {d : Set} {b sb : �
       (rw (statement-assign t i k (p .0), ← q, ← e₀) (assign-means (rw cover (j .covers small)) h (λ y. omega arith)))
 
   pub single-judged : {want code c r w cb rb wb : ℕ} (suited fit : Bool) → Single s f t n i want code → (fit ≡ true → Fits t i sb) → (b < i → Judged s f t n d b cb rb wb)
-      → suited ≡ suits want cb → ((ltb cb 3 && suited) && fit) ≡ true → r ≡ rb → has w ≡ none → c ≡ code → Judged s f t n d i c r w
+      → suited ≡ suits want cb → ((ltb cb 3 && suited) && fit) ≡ true → r ≡ rb → has w ≡ pick (eqb code 4) (below mostVariables) none → c ≡ code → Judged s f t n d i c r w
   unfolding total last
   single-judged {want} {code} {c} {r} {w} {cb} suited fit l g jb su z cover h c₀ =
       let e = g (and-right (ltb cb 3 && suited) fit z) in
@@ -221,6 +223,6 @@ module _ (s : List ℕ) (f : ℕ) (t : List ℕ) (n i : ℕ) {d : Set} {b sb : �
       by-kind (inr k) = omega (arith, k .1)
 
       means : ((kindAt t i ≡ 12) × (code ≡ 4)) ⊎ (((kindAt t i ≡ 13) ⊎ (kindAt t i ≡ 14)) × (code ≡ 3)) → 0 < i → Covers (readsOf t b) (has r) → Means (statementAt t i) d c r w
-      means (inl k) p m = rw (statement-return t i (k .0) p, ← q) (return-means m h)
-      means (inr (inl k, v)) p m = rw (statement-assert t i k p, ← q) (assert-means m h (λ y. omega (arith, v)))
-      means (inr (inr k, v)) p m = rw (statement-expr t i k p, ← q) (expr-means m h (λ y. omega (arith, v)))
+      means (inl k) p m = rw (statement-return t i (k .0) p, ← q) (return-means m (rw (k .1) at h))
+      means (inr (inl k, v)) p m = rw (statement-assert t i k p, ← q) (assert-means m (rw v at h) (λ y. omega (arith, v)))
+      means (inr (inr k, v)) p m = rw (statement-expr t i k p, ← q) (expr-means m (rw v at h) (λ y. omega (arith, v)))

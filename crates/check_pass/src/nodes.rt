@@ -1,5 +1,6 @@
 // A node of each kind in the pass over a part: its effect, or that it is not known to pass.
 use check_effects::Effect;
+use check_effects::of_expression;
 use check_effects::plain;
 use records::format::TYPE_UNSET;
 use records::format::VARIABLE_ENTRIES;
@@ -286,5 +287,5 @@ pub fn single_at(
     let b = minus(i, 1);
     let fit = fits(part, i, size_at(part, b));
     let passes = (codes[b] < 3) & check_types::is_suited(want, codes[b]) & fit;
-    guard(passes, plain(code, reads_of(reads, b), VarSet::empty()))
+    guard(passes, of_expression(code, reads_of(reads, b)))
 }

@@ -117,14 +117,14 @@ module _ (d : Set) where
 
 -- of what is left, variable by variable
 pub leaves-at : (s : Statement) (d d′ : Set) (x : ℕ) → (d x ≡ true → d′ x ≡ true) → leaves s d x ≡ true → leaves s d′ x ≡ true
-unfolding leaves with without both less
+unfolding leaves with without both either less
 leaves-at Nop d d′ x h e = h e
 leaves-at (Seq s t) d d′ x h e = leaves-at t (leaves s d) (leaves s d′) x (leaves-at s d d′ x h) e
 leaves-at (Assign y f) d d′ x h e = either-mono (d x) (d′ x) _ _ h (λ k. k) e
 leaves-at (Decl y s) d d′ x h e = both-mono _ _ _ _ (leaves-at s (without d y) (without d′ y) x (both-mono _ _ _ _ h (λ k. k))) (λ k. k) e
 leaves-at (If f s t) d d′ x h e = both-mono _ _ _ _ (leaves-at s d d′ x h) (leaves-at t d d′ x h) e
 leaves-at (While f s) d d′ x h e = both-mono _ _ _ _ h (λ k. k) e
-leaves-at (Return f) d d′ x h e = h e
+leaves-at (Return f) d d′ x h e = either-mono (d x) (d′ x) _ _ h (λ k. k) e
 leaves-at (Assert f) d d′ x h e = h e
 leaves-at (Expr f) d d′ x h e = h e
 
@@ -165,7 +165,7 @@ keeps (Decl y s) d x e n =
     and-both _ _ (keeps s (without d y) x (and-both _ _ e q) (or-false-left (declares s x) _ n)) q
 keeps (If f s t) d x e n = and-both _ _ (keeps s d x e (or-false-left (declares s x) _ n)) (keeps t d x e (or-false-right (declares s x) _ n))
 keeps (While f s) d x e n = and-both _ _ e (rw n)
-keeps (Return f) d x e n = e
+keeps (Return f) d x e n = or-more _ _ e
 keeps (Assert f) d x e n = e
 keeps (Expr f) d x e n = e
 

@@ -4,7 +4,8 @@ use mathlib.Core.Bool.{true, false, _||_, _&&_}
 use mathlib.Core.List.{List}
 use mathlib.Core.Logic.{_⊎_, inl, inr}
 use Prim.Native.Nat.{ℕ, _≤_, _<_}
-use Rattle.varset.specs.Sets.{Set, none, with, without, both, either, less}
+use Rattle.varset.specs.Sets.{Set, none, with, without, both, either, less, below}
+use Rattle.records.specs.Format.{mostVariables}
 use Rattle.records.specs.Fields.{kindAt, bAt}
 use Rattle.records.specs.Search.{orElse}
 use Rattle.records.specs.declared.Found.the-variants.{Nothing}
@@ -39,12 +40,17 @@ module _ (t : List ℕ) (i : ℕ) (d : Set) where
   unfolding leaves
   leaves-while e p = ap (λ (s : Statement). leaves s d) (statement-while t i e p)
 
-  -- "return and the rest leave what they found"
-  pub leaves-rest : (kindAt t i < 7) ⊎ (12 ≤ kindAt t i) → leaves (statementAt t i) d ≡ d
+  -- "a return count[s] as giving every variable of the function a value"; no function has more than these
+  pub leaves-return : kindAt t i ≡ 12 → 0 < i → leaves (statementAt t i) d ≡ either d (below mostVariables)
+  unfolding leaves
+  leaves-return e p = ap (λ (s : Statement). leaves s d) (statement-return t i e p)
+
+  -- "the rest leave what they found"
+  pub leaves-rest : (kindAt t i < 7) ⊎ (13 ≤ kindAt t i) → leaves (statementAt t i) d ≡ d
   unfolding leaves
   leaves-rest =
-      by-kind t i (λ k s. (k < 7) ⊎ (12 ≤ k) → leaves s d ≡ d) (λ k h. refl)
-      (not-both 7 tt) (not-both 8 tt) (not-both 9 tt) (not-both 10 tt) (not-both 11 tt) (λ h. refl) (λ h. refl) (λ h. refl)
+      by-kind t i (λ k s. (k < 7) ⊎ (13 ≤ k) → leaves s d ≡ d) (λ k h. refl)
+      (not-both 7 tt) (not-both 8 tt) (not-both 9 tt) (not-both 10 tt) (not-both 11 tt) (not-both 12 tt) (λ h. refl) (λ h. refl)
 
   -- "seq flows left to right": the right is judged from what the left leaves
   pub lacks-seq : kindAt t i ≡ 7 → 0 < i

@@ -103,9 +103,6 @@ rows =
     -- assign(0, var 0)
     row (alone 1 6 (node 2 0 0 1 ++ node 8 0 0 2 ++ node 0 0 0 1 ++ node 12 0 0 2 ++ node 7 0 0 5 ++ node 9 1 0 6)) (refused 13 2 0)
     ∷
-    -- code after a return is judged as if reached
-    row (alone 1 6 (node 0 0 1 1 ++ node 12 0 0 2 ++ node 2 0 0 1 ++ node 12 0 0 2 ++ node 7 0 0 5 ++ node 9 1 0 6)) (refused 13 4 0)
-    ∷
     -- a loop's assignment does not count for its condition
     row (alone 1 10 (node 2 0 0 1 ++ node 0 0 1 1 ++ node 3 10 0 3 ++ node 0 0 1 1 ++ node 8 0 0 2 ++ node 11 0 0 6 ++ node 0 0 0 1 ++ node 12 0 0 2 ++ node 7 0 0 9 ++ node 9 1 0 10)) (refused 13 2 0)
     ∷
@@ -134,7 +131,38 @@ rows =
     row (alone 0 2 (node 5 0 0 1 ++ node 12 0 0 2)) accepted
     ∷ []
 
+-- a return counts as giving every variable a value
+abbrev early : List Row
+early =
+    -- decl(0, int, seq(if(true, return(1), assign(0, 2)), return(x0)))
+    row (alone 1 10 (node 1 0 1 1 ++ node 0 0 1 1 ++ node 12 0 0 2 ++ node 0 0 2 1 ++ node 8 0 0 2 ++ node 10 0 0 6 ++ node 2 0 0 1 ++ node 12 0 0 2 ++ node 7 0 0 9 ++ node 9 1 0 10)) accepted
+    ∷
+    -- decl(0, int, seq(return(1), return(x0)))
+    row (alone 1 6 (node 0 0 1 1 ++ node 12 0 0 2 ++ node 2 0 0 1 ++ node 12 0 0 2 ++ node 7 0 0 5 ++ node 9 1 0 6)) accepted
+    ∷
+    -- decl(0, int, seq(decl(1, int, seq(return(1), assign(1, 2))), return(x0)))
+    row (alone 2 10 (node 0 0 1 1 ++ node 12 0 0 2 ++ node 0 0 2 1 ++ node 8 0 1 2 ++ node 7 0 0 5 ++ node 9 1 1 6 ++ node 2 0 0 1 ++ node 12 0 0 2 ++ node 7 0 0 9 ++ node 9 1 0 10)) accepted
+    ∷
+    -- decl(0, int, seq(while(true, seq(return(1), expr(x0))), return(0)))
+    row (alone 1 11 (node 1 0 1 1 ++ node 0 0 1 1 ++ node 12 0 0 2 ++ node 2 0 0 1 ++ node 14 0 0 2 ++ node 7 0 0 5 ++ node 11 0 0 7 ++ node 0 0 0 1 ++ node 12 0 0 2 ++ node 7 0 0 10 ++ node 9 1 0 11)) accepted
+    ∷
+    -- a decl takes its variable away: seq(return(1), decl(0, int, return(x0)))
+    row (alone 1 6 (node 0 0 1 1 ++ node 12 0 0 2 ++ node 2 0 0 1 ++ node 12 0 0 2 ++ node 9 1 0 3 ++ node 7 0 0 6)) (refused 13 4 0)
+    ∷
+    -- a loop leaves what it found: decl(0, int, seq(while(true, return(1)), return(x0)))
+    row (alone 1 8 (node 1 0 1 1 ++ node 0 0 1 1 ++ node 12 0 0 2 ++ node 11 0 0 4 ++ node 2 0 0 1 ++ node 12 0 0 2 ++ node 7 0 0 7 ++ node 9 1 0 8)) (refused 13 6 0)
+    ∷
+    -- an if leaves what both branches leave: decl(0, int, seq(if(true, return(1), nop), return(x0)))
+    row (alone 1 9 (node 1 0 1 1 ++ node 0 0 1 1 ++ node 12 0 0 2 ++ node 6 0 0 1 ++ node 10 0 0 5 ++ node 2 0 0 1 ++ node 12 0 0 2 ++ node 7 0 0 8 ++ node 9 1 0 9)) (refused 13 7 0)
+    ∷
+    -- the return's own expression is judged before: decl(0, int, seq(if(true, return(x0), assign(0, 2)), return(x0)))
+    row (alone 1 10 (node 1 0 1 1 ++ node 2 0 0 1 ++ node 12 0 0 2 ++ node 0 0 2 1 ++ node 8 0 0 2 ++ node 10 0 0 6 ++ node 2 0 0 1 ++ node 12 0 0 2 ++ node 7 0 0 9 ++ node 9 1 0 10)) (refused 13 3 0)
+    ∷
+    -- only once in its branch: decl(0, int, if(true, return(1), return(x0)))
+    row (alone 1 7 (node 1 0 1 1 ++ node 0 0 1 1 ++ node 12 0 0 2 ++ node 2 0 0 1 ++ node 12 0 0 2 ++ node 10 0 0 6 ++ node 9 1 0 7)) (refused 13 5 0)
+    ∷ []
+
 -- all rows
-worked : map (λ r. checkOf (fileOf r)) rows ≡ map verdictOf rows
+worked : map (λ r. checkOf (fileOf r)) (rows ++ early) ≡ map verdictOf (rows ++ early)
 unfolding lowest has none with without both either less below u16At u32At markAt functions nodes resultOf paramsOf varsOf maskOf countOf kindAt aAt bAt sizeAt sumOf startOf partOf firstOf shift orElse firstIn unless arities arityOf arityAt walk children differ isExpression wantsExpression wrongSort prior last shapes shapeAt readsFrom readsOf grow statementIn statementAt declares leaves missing lacks returns declaresAt declCount declOf under usesVariable paramType varType operatorType typesOf typeAt condition wantsOf wantAt suits agree within lengthOk headerOk recordsOk functionOk sumOk mainOk fields fieldsOk nodeOk total sizeOk wrongChild some misplaced undeclared firstUndeclared outside mistyped answers originOf inPart partQuestions questions refuse firstRefusal checkOf
 worked = refl

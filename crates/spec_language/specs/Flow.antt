@@ -2,7 +2,8 @@
 use mathlib.Core.Bool.{Bool, true, false, _||_, _&&_}
 use mathlib.Core.List.{List, [], _∷_}
 use Rattle.varset.specs.Lowest.{pick}
-use Rattle.varset.specs.Sets.{Set, none, with, without, both, either, less}
+use Rattle.varset.specs.Sets.{Set, none, with, without, both, either, less, below}
+use Rattle.records.specs.Format.{mostVariables}
 use Rattle.records.specs.declared.Found.{Found}
 use Rattle.records.specs.declared.Found.the-variants.{At, Nothing}
 use Rattle.records.specs.Search.{orElse}
@@ -20,7 +21,7 @@ declares (Return e) = none
 declares (Assert e) = none
 declares (Expr e) = none
 
--- the variables that have a value after a statement, of those in d before it; by kind
+-- the variables that have a value after a statement begun with those in d; a return counts as giving one to every variable; by kind
 unfoldable pub leaves : Statement → Set → Set
 leaves Nop d = d
 leaves (Seq s t) d = leaves t (leaves s d)
@@ -28,7 +29,7 @@ leaves (Assign x e) d = with d x
 leaves (Decl x s) d = without (leaves s (without d x)) x
 leaves (If e s t) d = both (leaves s d) (leaves t d)
 leaves (While e s) d = less d (declares s)
-leaves (Return e) d = d
+leaves (Return e) d = either d (below mostVariables)
 leaves (Assert e) d = d
 leaves (Expr e) d = d
 

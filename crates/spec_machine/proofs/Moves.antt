@@ -4,7 +4,7 @@ use mathlib.Core.Bool.{true}
 use mathlib.Core.List.{List, [], _∷_, map}
 use Prim.Native.Nat.{ℕ}
 use lib.ListN.{set}
-use Rattle.varset.specs.Sets.{Set, with, both, Sub}
+use Rattle.varset.specs.Sets.{Set, with, both, either, Sub}
 use Rattle.records.proofs.Bools.{both-mono, either-mono}
 use Rattle.spec_language.specs.Flow.{leaves, returns}
 use Rattle.spec_language.proofs.Flows.{reads-mono, ok-nop, ok-mono, leaves-mono, Unrolled}
@@ -25,6 +25,10 @@ with-mono : (d d′ : Set) (x : ℕ) → Sub d d′ → Sub (with d x) (with d�
 unfolding with
 with-mono d d′ x h y = either-mono (d y) (d′ y) _ _ (h y) (λ q. q)
 
+added-mono : (d d′ e : Set) → Sub d d′ → Sub (either d e) (either d′ e)
+unfolding either
+added-mono d d′ e h y = either-mono (d y) (d′ y) _ _ (h y) (λ q. q)
+
 shared-mono : (a a′ b b′ : Set) → Sub a a′ → Sub b b′ → Sub (both a b) (both a′ b′)
 unfolding both
 shared-mono a a′ b b′ h k y = both-mono (a y) (a′ y) _ _ (h y) (k y)
@@ -40,7 +44,7 @@ flows-mono P f (branch a b ∷ K) d d′ h o = (
   ok-mono (P .stmt f b) d d′ h (o .1),
   flows-mono P f K _ _ (shared-mono _ _ _ _ (leaves-mono (P .stmt f a) d d′ h) (leaves-mono (P .stmt f b) d d′ h)) (o .2),
 )
-flows-mono P f (Frame.leave ∷ K) d d′ h o = flows-mono P f K d d′ h o
+flows-mono P f (Frame.leave ∷ K) d d′ h o = flows-mono P f K _ _ (added-mono d d′ _ h) o
 flows-mono P f (check ∷ K) d d′ h o = flows-mono P f K d d′ h o
 flows-mono P f (Frame.discard ∷ K) d d′ h o = flows-mono P f K d d′ h o
 

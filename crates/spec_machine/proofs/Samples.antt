@@ -4,7 +4,7 @@ use mathlib.Core.Bool.{Bool, true, false}
 use mathlib.Core.List.{List, [], _∷_, _++_, map}
 use Prim.Native.Nat.{ℕ}
 use lib.ListN.{replicate}
-use Rattle.varset.specs.Sets.{none, with, without, both, either, less}
+use Rattle.varset.specs.Sets.{none, with, without, both, either, less, below}
 use Rattle.records.specs.Bytes.{u16At, u32At}
 use Rattle.records.specs.Fields.{functions, resultOf, paramsOf, varsOf, maskOf, countOf, kindAt, aAt, bAt, sizeAt}
 use Rattle.records.specs.Parts.{sumOf, startOf, partOf}
@@ -216,8 +216,20 @@ callers =
 -- which variables have values, through control and frames
 abbrev flow : List Row
 flow =
-    -- what is under return(_) is judged
-    unfit (main-at (val (int 5)) empty (Frame.leave ∷ after 21 ∷ [])) ∷ fits (main-at (val (int 5)) half (Frame.leave ∷ after 21 ∷ [])) ∷
+    -- a return counts as giving every variable a value: return(_), a return at hand, and one that waits
+    fits (main-at (val (int 5)) empty (Frame.leave ∷ after 21 ∷ [])) ∷ fits (main-at (val (int 5)) half (Frame.leave ∷ after 21 ∷ [])) ∷
+    fits (called 5 (val (int 6)) (nothing ∷ []) (Frame.leave ∷ after 6 ∷ []) leaving) ∷
+    fits (called 5 (runs 11) (nothing ∷ []) (after 6 ∷ []) leaving) ∷ fits (called 5 (exec Ref.nop) (nothing ∷ []) (after 11 ∷ after 6 ∷ []) leaving) ∷
+    fits (called 2 (runs 3) (int 5 ∷ []) [] (Frame.leave ∷ after 21 ∷ [])) ∷
+    -- in one branch, where the other assigns, and where it does not
+    fits (main-at (val (truth true)) empty (branch (Ref.node 9) (Ref.node 1) ∷ after 21 ∷ [])) ∷
+    unfit (main-at (val (truth true)) empty (branch (Ref.node 9) Ref.nop ∷ after 21 ∷ [])) ∷
+    -- what it reads is judged from what was there
+    unfit (main-at (runs 21) empty (after 9 ∷ [])) ∷ unfit (main-at (exec Ref.nop) empty (after 21 ∷ after 9 ∷ [])) ∷
+    -- what is under return(_) is judged: a decl takes its variable away again, and so does a loop
+    unfit (called 5 (val (int 6)) (nothing ∷ []) (Frame.leave ∷ after 8 ∷ after 6 ∷ []) leaving) ∷
+    unfit (called 5 (val (int 6)) (int 5 ∷ []) (Frame.leave ∷ after 9 ∷ after 6 ∷ []) leaving) ∷
+    unfit (running (runs 3) emptyEnv 2 (int 5 ∷ []) [] (saved 5 (nothing ∷ []) (Frame.leave ∷ after 8 ∷ after 6 ∷ []) ∷ saved 0 empty leaving ∷ [])) ∷
     -- a decl takes its variable away after, and so does a loop
     unfit (called 5 (runs 8) (int 5 ∷ []) (after 6 ∷ after 11 ∷ []) leaving) ∷
     fits (called 5 (runs 7) (nothing ∷ []) (after 6 ∷ after 11 ∷ []) leaving) ∷
@@ -284,7 +296,7 @@ record Samples : Type 0 where
 
 -- all rows
 samples : Samples
-unfolding none with without both either less u16At u32At functions resultOf paramsOf varsOf maskOf countOf kindAt aAt bAt sizeAt sumOf startOf partOf orElse prior last shapes shapeAt readsFrom readsOf grow statementIn statementAt declares leaves missing lacks returns declaresAt declOf paramType varType looks lookAt formOf formAt ifForm seqForm seeAt unrolled looped stmtAt typesFrom funOf programOf
+unfolding none with without both either less below u16At u32At functions resultOf paramsOf varsOf maskOf countOf kindAt aAt bAt sizeAt sumOf startOf partOf orElse prior last shapes shapeAt readsFrom readsOf grow statementIn statementAt declares leaves missing lacks returns declaresAt declOf paramType varType looks lookAt formOf formAt ifForm seqForm seeAt unrolled looped stmtAt typesFrom funOf programOf
 samples =
     record {
       right-ends = refl;

@@ -94,7 +94,7 @@ module _ (P : Program) where
   flows-say f (wait r ∷ K) d = two (clear-says (lacks (P .stmt f r) d)) (flows-say f K (leaves (P .stmt f r) d))
   flows-say f (Frame.store x ∷ K) d = flows-say f K (with d x)
   flows-say f (branch a b ∷ K) d = three (clear-says (lacks (P .stmt f a) d)) (clear-says (lacks (P .stmt f b) d)) (flows-say f K (both (leaves (P .stmt f a) d) (leaves (P .stmt f b) d)))
-  flows-say f (Frame.leave ∷ K) d = flows-say f K d
+  flows-say f (Frame.leave ∷ K) d = flows-say f K _
   flows-say f (check ∷ K) d = flows-say f K d
   flows-say f (Frame.discard ∷ K) d = flows-say f K d
 

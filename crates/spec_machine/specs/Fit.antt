@@ -5,7 +5,8 @@ use mathlib.Core.Bool.{Bool, true, false, _||_, _&&_, not}
 use mathlib.Core.List.{List, [], _∷_, _++_, map}
 use Prim.Native.Nat.{ℕ, _+_, _^_, _≤_, _<_}
 use lib.ListN.{getD, length}
-use Rattle.varset.specs.Sets.{Set, with, both}
+use Rattle.varset.specs.Sets.{Set, with, both, either, below}
+use Rattle.records.specs.Format.{mostVariables}
 use Rattle.records.specs.declared.Found.the-variants.{Nothing}
 use Rattle.spec_language.specs.Flow.{leaves, missing, lacks, returns}
 use Rattle.spec_machine.specs.Values.{Ty, tBool, Value, nothing, int, truth, typeV}
@@ -171,7 +172,7 @@ Flows P f (and n ∷ K) d = Reads P f n d × Flows P f K d
 Flows P f (wait r ∷ K) d = Ok P f r d × Flows P f K (leaves (P .stmt f r) d)
 Flows P f (Frame.store x ∷ K) d = Flows P f K (with d x)
 Flows P f (branch a b ∷ K) d = Ok P f a d × Ok P f b d × Flows P f K (both (leaves (P .stmt f a) d) (leaves (P .stmt f b) d))
-Flows P f (Frame.leave ∷ K) d = Flows P f K d
+Flows P f (Frame.leave ∷ K) d = Flows P f K (either d (below mostVariables))
 Flows P f (check ∷ K) d = Flows P f K d
 Flows P f (Frame.discard ∷ K) d = Flows P f K d
 

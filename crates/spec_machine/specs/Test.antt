@@ -4,7 +4,8 @@ use mathlib.Core.List.{List, [], _∷_, _++_, map}
 use Prim.Native.Nat.{ℕ, _+_, _^_}
 use lib.Dec.{eqb, ltb}
 use lib.ListN.{length}
-use Rattle.varset.specs.Sets.{Set, with, both}
+use Rattle.varset.specs.Sets.{Set, with, both, either, below}
+use Rattle.records.specs.Format.{mostVariables}
 use Rattle.records.specs.declared.Found.{Found}
 use Rattle.records.specs.declared.Found.the-variants.{At, Nothing}
 use Rattle.spec_language.specs.Flow.{leaves, missing, lacks}
@@ -105,7 +106,7 @@ flows P f (and n ∷ K) d = reads P f n d && flows P f K d
 flows P f (wait r ∷ K) d = ok P f r d && flows P f K (leaves (P .stmt f r) d)
 flows P f (Frame.store x ∷ K) d = flows P f K (with d x)
 flows P f (branch a b ∷ K) d = ok P f a d && (ok P f b d && flows P f K (both (leaves (P .stmt f a) d) (leaves (P .stmt f b) d)))
-flows P f (Frame.leave ∷ K) d = flows P f K d
+flows P f (Frame.leave ∷ K) d = flows P f K (either d (below mostVariables))
 flows P f (check ∷ K) d = flows P f K d
 flows P f (Frame.discard ∷ K) d = flows P f K d
 

@@ -12,6 +12,9 @@ pub struct VarSet(pub u64);
 // The set without members.
 pub const EMPTY: VarSet = VarSet(0);
 
+// The set of all numbers below 64.
+pub const FULL: VarSet = VarSet(18446744073709551615);
+
 impl VarSet {
     // The set without members.
     pub fn empty() -> VarSet
@@ -20,13 +23,20 @@ impl VarSet {
         EMPTY
     }
 
+    // The set of all numbers below 64.
+    pub fn full() -> VarSet
+        ensures { λ r. ⌜ has (r .0) ≡ below 64 ⌝ }
+    {
+        FULL
+    }
+
     // The numbers below n.
     pub fn below(n: u32) -> VarSet
         requires { ⌜ n ≤ 64 ⌝ }
         ensures { λ r. ⌜ has (r .0) ≡ below n ⌝ }
     {
         if n == 64 {
-            VarSet(18446744073709551615)
+            VarSet::full()
         } else {
             VarSet((1u64 << n) - 1)
         }

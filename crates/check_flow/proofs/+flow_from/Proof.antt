@@ -6,7 +6,7 @@ use borrow.Author.Needs.{needs}
 use Rattle.spec_language.specs.Scopes.{usesVariable}
 use Rattle.spec_language.specs.Known.{namesVariable}
 use Rattle.spec_language.proofs.KnownNodes.{inner, named, reach, descend}
-use Rattle.check_flow.proofs.Walks.{from-twelve, follows-seq, follows-assign, follows-decl, follows-if, follows-while, follows-expression, follows-rest}
+use Rattle.check_flow.proofs.Walks.{from-thirteen, follows-seq, follows-assign, follows-decl, follows-if, follows-while, follows-return, follows-expression, follows-rest}
 use Prim.Native.Nat.{ℕ, _<_}
 use borrow.Fn.Kinds.{In}
 use borrow.Fn.PlainCycle.{Measures, is, falls, and}
@@ -22,8 +22,10 @@ use Rattle.check_flow.proofs.plain.Reads as plain-reads
 use Rattle.records.proofs.nodes.b_at.Reads as b-at-reads
 use Rattle.records.proofs.nodes.kind_at.Reads as kind-at-reads
 use Rattle.records.proofs.nodes.prior.Reads as prior-reads
+use Rattle.varset.proofs.VarSet.full.Reads as full-reads
 use Rattle.varset.proofs.VarSet.insert.Reads as insert-reads
 use Rattle.varset.proofs.VarSet.remove.Reads as remove-reads
+use Rattle.varset.proofs.VarSet.union.Reads as union-reads
 use Rattle.check_flow.proofs.+flow_from.{statement}
 use Rattle.check_flow.proofs.+flow_from.Tie.{close}
 
@@ -38,7 +40,7 @@ flow-from-below t =
     and 1 flow-from-kinds.ps (falls 1 flow-from-kinds.ps _<_ μ-flow-from t) flow-from.Pre
 
 abbrev claims : ℕ → flow-from-lts.Claims
-claims t = (kind-at-reads.Asked, kind-at-reads.Learnt, prior-reads.Asked, prior-reads.Learnt, flow-from-below t, flow-from.Post, in-sequence-reads.Asked, in-sequence-reads.Learnt, b-at-reads.Asked, b-at-reads.Learnt, insert-reads.Asked, insert-reads.Learnt, first-missing-reads.Asked, first-missing-reads.Learnt, plain-reads.Asked, plain-reads.Learnt, remove-reads.Asked, remove-reads.Learnt, in-scope-reads.Asked, in-scope-reads.Learnt, in-branches-reads.Asked, in-branches-reads.Learnt, in-loop-reads.Asked, in-loop-reads.Learnt)
+claims t = (kind-at-reads.Asked, kind-at-reads.Learnt, prior-reads.Asked, prior-reads.Learnt, flow-from-below t, flow-from.Post, in-sequence-reads.Asked, in-sequence-reads.Learnt, b-at-reads.Asked, b-at-reads.Learnt, insert-reads.Asked, insert-reads.Learnt, first-missing-reads.Asked, first-missing-reads.Learnt, plain-reads.Asked, plain-reads.Learnt, remove-reads.Asked, remove-reads.Learnt, in-scope-reads.Asked, in-scope-reads.Learnt, in-branches-reads.Asked, in-branches-reads.Learnt, in-loop-reads.Asked, in-loop-reads.Learnt, full-reads.Asked, full-reads.Learnt, union-reads.Asked, union-reads.Learnt)
 
 flow-from-kind-at-requires : (t : ℕ) → flow-from-lts.Need-kind-at-requires (claims t) (flow-from-at t) flow-from.Post
 flow-from-kind-at-requires t c κs = search needs
@@ -127,8 +129,14 @@ flow-from-flow-from-requires-6 t c κs = descend (c .before .before .before .bef
 flow-from-in-loop-requires : (t : ℕ) → flow-from-lts.Need-in-loop-requires (claims t) (flow-from-at t) flow-from.Post
 flow-from-in-loop-requires t c κs = search needs
 
+flow-from-full-requires : (t : ℕ) → flow-from-lts.Need-full-requires (claims t) (flow-from-at t) flow-from.Post
+flow-from-full-requires t c κs = search needs
+
+flow-from-union-requires : (t : ℕ) → flow-from-lts.Need-union-requires (claims t) (flow-from-at t) flow-from.Post
+flow-from-union-requires t c κs = search needs
+
 flow-from-sub-first-missing-2 : (t : ℕ) → flow-from-lts.Need-sub-first-missing-2 (claims t) (flow-from-at t) flow-from.Post
-flow-from-sub-first-missing-2 t c = inner _ (c .before .before .before .before .before .pre .1 .1) (search needs) (sym (c .before .before .before .kind-at .ensures)) (c .before .if1 .left) (c .if2 .taken)
+flow-from-sub-first-missing-2 t c = inner 12 (c .before .before .before .before .before .pre .1 .1) (search needs) (sym (c .before .before .before .kind-at .ensures) ∙ c .before .before .match .keys6) (lit≤ tt) (lit< tt)
 
 flow-from-first-missing-requires-4 : (t : ℕ) → flow-from-lts.Need-first-missing-requires-4 (claims t) (flow-from-at t) flow-from.Post
 flow-from-first-missing-requires-4 t c κs = reach (c .before .before .before .before .before .pre .1) (omega (arith, flow-from-sub-first-missing-2 t c))
@@ -136,8 +144,17 @@ flow-from-first-missing-requires-4 t c κs = reach (c .before .before .before .b
 flow-from-plain-requires-2 : (t : ℕ) → flow-from-lts.Need-plain-requires-2 (claims t) (flow-from-at t) flow-from.Post
 flow-from-plain-requires-2 t c κs = search needs
 
+flow-from-sub-first-missing-3 : (t : ℕ) → flow-from-lts.Need-sub-first-missing-3 (claims t) (flow-from-at t) flow-from.Post
+flow-from-sub-first-missing-3 t c = inner _ (c .before .before .before .before .before .pre .1 .1) (search needs) (sym (c .before .before .before .kind-at .ensures)) (c .before .if1 .left) (c .if2 .taken)
+
+flow-from-first-missing-requires-5 : (t : ℕ) → flow-from-lts.Need-first-missing-requires-5 (claims t) (flow-from-at t) flow-from.Post
+flow-from-first-missing-requires-5 t c κs = reach (c .before .before .before .before .before .pre .1) (omega (arith, flow-from-sub-first-missing-3 t c))
+
 flow-from-plain-requires-3 : (t : ℕ) → flow-from-lts.Need-plain-requires-3 (claims t) (flow-from-at t) flow-from.Post
 flow-from-plain-requires-3 t c κs = search needs
+
+flow-from-plain-requires-4 : (t : ℕ) → flow-from-lts.Need-plain-requires-4 (claims t) (flow-from-at t) flow-from.Post
+flow-from-plain-requires-4 t c κs = search needs
 
 flow-from-returns : (t : ℕ) → flow-from-lts.Need-returns (claims t) (flow-from-at t) flow-from.Post
 flow-from-returns t c = follows-seq (c .before .before .before .before .before .before .before .before .args .part .now) (c .before .before .before .before .before .before .before .before .args .i) (sym (c .before .before .before .before .before .before .kind-at .ensures) ∙ c .before .before .before .before .before .match .keys1) (flow-from-sub-b t (c .before .before .before .before .before)) (c .before .before .before .before .prior .ensures) (c .in-sequence .ensures) (c .before .before .before .flow-from .ensures) (c .before .flow-from2 .ensures)
@@ -155,10 +172,13 @@ flow-from-returns-5 : (t : ℕ) → flow-from-lts.Need-returns-5 (claims t) (flo
 flow-from-returns-5 t c = follows-while (c .before .before .before .before .before .before .before .args .part .now) (c .before .before .before .before .before .before .before .args .i) (sym (c .before .before .before .before .before .kind-at .ensures) ∙ c .before .before .before .before .match .keys5) (flow-from-sub-b-3 t (c .before .before .before .before)) (c .before .before .before .prior4 .ensures) (c .in-loop .ensures) (c .before .before .first-missing3 .ensures) (c .before .flow-from6 .ensures)
 
 flow-from-returns-6 : (t : ℕ) → flow-from-lts.Need-returns-6 (claims t) (flow-from-at t) flow-from.Post
-flow-from-returns-6 t c = follows-expression (c .before .before .before .before .before .before .before .args .part .now) (c .before .before .before .before .before .before .before .args .i) (c .before .before .before .before .before .before .before .args .set) _ (sym (c .before .before .before .before .before .kind-at .ensures)) (flow-from-sub-first-missing-2 t (c .before .before)) (from-twelve _ (c .before .before .before .if1 .left) (c .before .before .before .before .match .rest .0 .0 .0 .0 .1) (c .before .before .before .before .match .rest .0 .0 .0 .1) (c .before .before .before .before .match .rest .0 .0 .1) (c .before .before .before .before .match .rest .0 .1) (c .before .before .before .before .match .rest .1)) (c .before .before .if2 .taken) (c .plain2 .ensures) (c .before .first-missing4 .ensures)
+flow-from-returns-6 t c = follows-return (c .before .before .before .before .before .before .before .args .part .now) (c .before .before .before .before .before .before .before .args .i) (sym (c .before .before .before .before .before .kind-at .ensures) ∙ c .before .before .before .before .match .keys6) (flow-from-sub-first-missing-2 t (c .before .before)) (c .plain2 .ensures) (rw (c .before .before .before .full .ensures) at (c .before .before .union .ensures)) (c .before .first-missing4 .ensures)
 
 flow-from-returns-7 : (t : ℕ) → flow-from-lts.Need-returns-7 (claims t) (flow-from-at t) flow-from.Post
-flow-from-returns-7 t c = follows-rest (c .before .before .before .before .before .args .part .now) (c .before .before .before .before .before .args .i) (c .before .before .before .before .before .args .set) _ (sym (c .before .before .before .kind-at .ensures)) (⊎-elim (λ w. inl (w .taken)) (λ w. inr (w .1 .left)) (c .before .if1 .came)) (c .plain3 .ensures) refl
+flow-from-returns-7 t c = follows-expression (c .before .before .before .before .before .before .before .args .part .now) (c .before .before .before .before .before .before .before .args .i) (c .before .before .before .before .before .before .before .args .set) _ (sym (c .before .before .before .before .before .kind-at .ensures)) (flow-from-sub-first-missing-3 t (c .before .before)) (from-thirteen _ (c .before .before .before .if1 .left) (c .before .before .before .before .match .rest .0 .0 .0 .0 .0 .1) (c .before .before .before .before .match .rest .0 .0 .0 .0 .1) (c .before .before .before .before .match .rest .0 .0 .0 .1) (c .before .before .before .before .match .rest .0 .0 .1) (c .before .before .before .before .match .rest .0 .1) (c .before .before .before .before .match .rest .1)) (c .before .before .if2 .taken) (c .plain3 .ensures) (c .before .first-missing5 .ensures)
+
+flow-from-returns-8 : (t : ℕ) → flow-from-lts.Need-returns-8 (claims t) (flow-from-at t) flow-from.Post
+flow-from-returns-8 t c = follows-rest (c .before .before .before .before .before .args .part .now) (c .before .before .before .before .before .args .i) (c .before .before .before .before .before .args .set) _ (sym (c .before .before .before .kind-at .ensures)) (⊎-elim (λ w. inl (w .taken)) (λ w. inr (w .1 .left)) (c .before .if1 .came)) (c .plain4 .ensures) refl
 
 pub +flow-from-spec : {M : Type 1} → statement M
 +flow-from-spec = close μ-flow-from λ t. flow-from-lts.spec (claims t)
@@ -192,10 +212,15 @@ pub +flow-from-spec : {M : Type 1} → statement M
     (flow-from-first-missing-requires-3 t)
     (flow-from-flow-from-requires-6 t)
     (flow-from-in-loop-requires t)
+    (flow-from-full-requires t)
+    (flow-from-union-requires t)
     (flow-from-sub-first-missing-2 t)
     (flow-from-first-missing-requires-4 t)
     (flow-from-plain-requires-2 t)
+    (flow-from-sub-first-missing-3 t)
+    (flow-from-first-missing-requires-5 t)
     (flow-from-plain-requires-3 t)
+    (flow-from-plain-requires-4 t)
     (flow-from-returns t)
     (flow-from-returns-2 t)
     (flow-from-returns-3 t)
@@ -203,3 +228,4 @@ pub +flow-from-spec : {M : Type 1} → statement M
     (flow-from-returns-5 t)
     (flow-from-returns-6 t)
     (flow-from-returns-7 t)
+    (flow-from-returns-8 t)

@@ -24,17 +24,14 @@ is-suited-requires c κs = search needs
 reads-of-requires : tie.Need-reads-of-requires
 reads-of-requires c κs = search needs
 
-empty-requires : tie.Need-empty-requires
-empty-requires c κs = search needs
-
-plain-requires : tie.Need-plain-requires
-plain-requires c κs = search needs
+of-expression-requires : tie.Need-of-expression-requires
+of-expression-requires c κs = search needs
 
 guard-requires : tie.Need-guard-requires
 guard-requires c κs = search needs
 
 returns : tie.Need-returns
-returns c = λ l. let g = c .guard .ensures l in rw (g .1, c .before .plain .ensures .1, c .before .plain .ensures .2) (single-judged _ _ _ _ _ (c .before .before .before .before .before .before .before .before .before .minus .ensures) (c .before .before .before .before .before .before .before .before .size-at .ensures .0) _ _ (c .before .before .before .before .before .before .before .before .before .before .before .before .before .before .before .pre .1) (c .before .before .before .before .before .before .before .fits2 .ensures) (c .before .before .before .before .before .before .before .before .before .before .before .before .before .before .before .pre .0 .filled .at _) (c .before .before .before .before .is-suited .ensures) (g .0) (c .before .before .before .reads-of .ensures) (c .before .before .empty .ensures) (c .before .plain .ensures .0))
+returns c = λ l. let g = c .guard .ensures l in rw (g .1, c .before .of-expression .ensures .1) (single-judged _ _ _ _ _ (c .before .before .before .before .before .before .before .before .minus .ensures) (c .before .before .before .before .before .before .before .size-at .ensures .0) _ _ (c .before .before .before .before .before .before .before .before .before .before .before .before .before .before .pre .1) (c .before .before .before .before .before .before .fits2 .ensures) (c .before .before .before .before .before .before .before .before .before .before .before .before .before .before .pre .0 .filled .at _) (c .before .before .before .is-suited .ensures) (g .0) (c .before .before .reads-of .ensures) (c .before .of-expression .ensures .2) (c .before .of-expression .ensures .0))
 
 pub single-at-spec : {M : Type 1} → statement M
 single-at-spec =
@@ -47,7 +44,6 @@ single-at-spec =
     shared-slice-read-is-suited
     is-suited-requires
     reads-of-requires
-    empty-requires
-    plain-requires
+    of-expression-requires
     guard-requires
     returns)
