@@ -5,7 +5,8 @@ use mathlib.Core.List.{List}
 use Prim.Native.Nat.{ℕ}
 use lib.Dec.{eqb}
 use borrow.Author.Tests.{eq-eqb, ne-eqb, eqb-true, eqb-false}
-use Rattle.varset.specs.Sets.{has, with, both}
+use Rattle.varset.specs.Sets.{has, with, both, either, below}
+use Rattle.records.specs.Format.{mostVariables}
 use Rattle.spec_language.specs.Flow.{leaves, returns}
 use Rattle.spec_machine.specs.Values.{Ty, Value}
 use Rattle.spec_machine.specs.Program.{Operation, Ref, Program, typeN, typeOfVar, wants, gives}
@@ -131,7 +132,7 @@ module _ {P : Program} {f : ℕ} {d : Received} {r : Next} where
 
   -- ---- a return, an assert, a discard
 
-  pub leave-law : r .ok ≡ (d .some && eqb (d .kind) (P .fun f .result)) → incomingIs (r .down) ≡ incoming false 0 (has (d .set .0)) true → Steps P f d Frame.leave r
+  pub leave-law : r .ok ≡ (d .some && eqb (d .kind) (P .fun f .result)) → incomingIs (r .down) ≡ incoming false 0 (either (has (d .set .0)) (below mostVariables)) true → Steps P f d Frame.leave r
   unfolding incomingIs
   leave-law o n = record { ok = o ∙ sym (and-true (d .some && eqb (d .kind) (P .fun f .result))); on = λ t. n }
 

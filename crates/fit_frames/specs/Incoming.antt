@@ -3,7 +3,8 @@ use mathlib.Core.Bool.{Bool, true, false, _&&_, _||_, not}
 use mathlib.Core.List.{_∷_, _++_, map}
 use Prim.Native.Nat.{ℕ}
 use lib.Dec.{eqb}
-use Rattle.varset.specs.Sets.{Set, with, both}
+use Rattle.varset.specs.Sets.{Set, with, both, either, below}
+use Rattle.records.specs.Format.{mostVariables}
 use Rattle.spec_language.specs.Flow.{leaves, returns}
 use Rattle.spec_machine.specs.Values.{Ty, tNone, tBool, typeV}
 use Rattle.spec_machine.specs.Program.{Program, typeN, typeOfVar, wants, gives}
@@ -53,7 +54,7 @@ handsOn P f (incoming b t d e) (wait r) = incoming false tNone (leaves (P .stmt 
 handsOn P f (incoming b t d e) (Frame.store x) = incoming false tNone (with d x) e
 handsOn P f (incoming b t d e) (branch r q) =
     incoming false tNone (both (leaves (P .stmt f r) d) (leaves (P .stmt f q) d)) (e || (returns (P .stmt f r) && returns (P .stmt f q)))
-handsOn P f (incoming b t d e) Frame.leave = incoming false tNone d true
+handsOn P f (incoming b t d e) Frame.leave = incoming false tNone (either d (below mostVariables)) true
 handsOn P f (incoming b t d e) check = incoming false tNone d e
 handsOn P f (incoming b t d e) Frame.discard = incoming false tNone d e
 

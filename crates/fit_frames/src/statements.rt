@@ -13,6 +13,7 @@ use records::vars_of;
 use records::wide;
 use state_words::Ref;
 use state_words::ref_of;
+use varset::VarSet;
 ghost use mathlib.Core.Path.{_≡_};
 ghost use mathlib.Core.Bool.{true};
 ghost use Prim.Native.Nat.{_+_, _*_, _≤_};
@@ -141,13 +142,13 @@ fn branches(
     }
 }
 
-// A return's value.
+// A return's value, which counts as giving every variable a value.
 pub fn leave_step(file: &[u8], f: usize, d: Received) -> Next
     requires { ⌜ 12 * (1 + f) + 12 ≤ length (now file) ⌝ }
     ensures { λ r. ⌜ Steps (programOf (now (file .entry))) f d Frame.leave r ⌝ }
 {
     let set = d.set;
-    let down = bare(set, true);
+    let down = bare(set.union(VarSet::full()), true);
     Next {
         ok: d.some & (d.kind == result_of(file, f)),
         down,

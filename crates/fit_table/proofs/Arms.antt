@@ -5,7 +5,8 @@ use mathlib.Core.List.{List}
 use mathlib.Core.Logic.{_⊎_, inl, inr}
 use Prim.Native.Nat.{ℕ, _+_, _-_, _≤_, _<_}
 use native.Mathlib.Omega.{arith}
-use Rattle.varset.specs.Sets.{has, none, with}
+use Rattle.varset.specs.Sets.{has, none, with, below}
+use Rattle.records.specs.Format.{mostVariables}
 use Rattle.varset.specs.declared.VarSet.{VarSet}
 use native.Mathlib.Decide.{decLt}
 use Rattle.records.specs.Fields.{kindAt, aAt, bAt, sizeAt}
@@ -103,11 +104,11 @@ module _ {s : List ℕ} {f : ℕ} {t : List ℕ} {n : ℕ} (p : Part s f t n) {i
           rw (statement-assign t i e (after-one 8 0 e refl))
           (assign-summary (bAt t i) _ _ _ _ _ _ _ (wanted 8 e refl refl (z .0 .2)) (z .0 .0) (z .0 .1) (rw (z .0 .3, ← q) w) (z .1 .0) (z .1 .1))
 
-      pub return-arm : {adds : VarSet} → kindAt t i ≡ 12 → has (adds .0) ≡ none → PlainIs r needs adds true → Sums (statementAt t i) r
+      pub return-arm : {adds : VarSet} → kindAt t i ≡ 12 → has (adds .0) ≡ below mostVariables → PlainIs r needs adds true → Sums (statementAt t i) r
       unfolding arityOf arities last wantsExpression
       return-arm e w z =
           rw (statement-return t i e (after-one 12 0 e refl))
-          (return-summary _ _ _ _ _ _ (z .0 .0) (rw (z .0 .3) w) (z .1 .0) (z .1 .1) _ (wanted 12 e refl refl (z .0 .2)) (z .0 .1))
+          (return-summary _ _ _ _ _ _ _ (wanted 12 e refl refl (z .0 .2)) (z .0 .0) (z .0 .1) (rw (z .0 .3) w) (z .1 .0) (z .1 .1))
 
       pub assert-arm : {adds : VarSet} → kindAt t i ≡ 13 → has (adds .0) ≡ none → PlainIs r needs adds false → Sums (statementAt t i) r
       unfolding arityOf arities last wantsExpression

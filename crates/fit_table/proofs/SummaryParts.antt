@@ -6,7 +6,8 @@ use mathlib.Core.Logic.{_↔_}
 use Prim.Native.Nat.{ℕ}
 use lib.Dec.{eqb}
 use borrow.Author.Tests.{eqb-true, eq-eqb, not-true}
-use Rattle.varset.specs.Sets.{Set, has, none, with, without, both, either, less, Sub}
+use Rattle.varset.specs.Sets.{Set, has, none, with, without, both, either, less, below, Sub}
+use Rattle.records.specs.Format.{mostVariables}
 use Rattle.records.proofs.Bools.{and-left, and-right, and-both, or-more, by, or-cases, clash, or-last}
 use Rattle.spec_language.specs.Statements.{Read, Statement, Nop, Seq, Assign, Decl, If, While, Return, Assert, Expr}
 use Rattle.spec_language.specs.Flow.{declares, leaves, returns}
@@ -32,11 +33,6 @@ module _ (fails returned : Bool) (needs adds drops declared : ℕ) (f : fails �
       record { enough = λ h d k. ok-nop d; wanted = λ d l. (f, empty-sub d needs n); leaving = kept; declaring = sym c; returning = sym r }
 
   module _ (e : List Read) (n : Needs e needs) where
-    pub return-summary : returned ≡ true → Summary (Return e) fails returned needs adds drops declared
-    unfolding declares leaves returns
-    return-summary r =
-        record { enough = λ h d k. ok-return d e .1 (n .enough d k); wanted = λ d l. (f, n .wanted d (ok-return d e .0 l)); leaving = kept; declaring = sym c; returning = sym r }
-
     pub assert-summary : returned ≡ false → Summary (Assert e) fails returned needs adds drops declared
     unfolding declares leaves returns
     assert-summary r =
@@ -46,6 +42,18 @@ module _ (fails returned : Bool) (needs adds drops declared : ℕ) (f : fails �
     unfolding declares leaves returns
     expr-summary r =
         record { enough = λ h d k. ok-expr d e .1 (n .enough d k); wanted = λ d l. (f, n .wanted d (ok-expr d e .0 l)); leaving = kept; declaring = sym c; returning = sym r }
+
+pub return-summary : (e : List Read) (fails returned : Bool) (needs adds drops declared : ℕ) → Needs e needs → fails ≡ false → returned ≡ true
+    → has adds ≡ below mostVariables → has drops ≡ none → has declared ≡ none → Summary (Return e) fails returned needs adds drops declared
+unfolding declares leaves returns either less none
+return-summary e fails returned needs adds drops declared n f r a p c =
+    record {
+      enough = λ h d k. ok-return d e .1 (n .enough d k);
+      wanted = λ d l. (f, n .wanted d (ok-return d e .0 l));
+      leaving = λ d. rw (p, a) (λ k x. adding (d x) (below mostVariables x) k);
+      declaring = sym c;
+      returning = sym r;
+    }
 
 pub assign-summary : (x : ℕ) (e : List Read) (fails returned : Bool) (needs adds drops declared : ℕ) → Needs e needs → fails ≡ false → returned ≡ false
     → has adds ≡ with none x → has drops ≡ none → has declared ≡ none → Summary (Assign x e) fails returned needs adds drops declared

@@ -143,7 +143,7 @@ fn statement_row(file: &[u8], f: usize, part: &[u8], n: usize, table: &[u64], i:
         }
         12 => {
             let needs = needs_at(table, i - 1);
-            crate::rows::plain(needs, VarSet::empty(), true)
+            crate::rows::plain(needs, VarSet::full(), true)
         }
         13 => {
             let needs = needs_at(table, i - 1);

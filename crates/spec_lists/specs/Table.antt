@@ -86,5 +86,5 @@ rows =
     row (alone 1 3 (node 2 0 0 1 ++ node 12 0 0 2 ++ node 9 1 0 3)) 10000 (refused 13 2 0)
     ∷
     -- decl(0, int, seq(if(true, return 1, assign(0, 2)), return var 0))
-    row (alone 1 10 (node 1 0 1 1 ++ node 0 0 1 1 ++ node 12 0 0 2 ++ node 0 0 2 1 ++ node 8 0 0 2 ++ node 10 0 0 6 ++ node 2 0 0 1 ++ node 12 0 0 2 ++ node 7 0 0 9 ++ node 9 1 0 10)) 10000 (refused 13 8 0)
+    row (alone 1 10 (node 1 0 1 1 ++ node 0 0 1 1 ++ node 12 0 0 2 ++ node 0 0 2 1 ++ node 8 0 0 2 ++ node 10 0 0 6 ++ node 2 0 0 1 ++ node 12 0 0 2 ++ node 7 0 0 9 ++ node 9 1 0 10)) 10000 (value (pos 1) 8)
     ∷ []

@@ -108,8 +108,8 @@ sub-needs-at-2 c = after-one (c .before .before .before .before .before .pre .0 
 needs-at-requires-4 : tie.Need-needs-at-requires-4
 needs-at-requires-4 c κs = search needs
 
-empty-requires-2 : tie.Need-empty-requires-2
-empty-requires-2 c κs = search needs
+full-requires : tie.Need-full-requires
+full-requires c κs = search needs
 
 plain-requires-2 : tie.Need-plain-requires-2
 plain-requires-2 c κs = search needs
@@ -121,8 +121,8 @@ sub-needs-at-3 c = after-one (c .before .before .before .before .before .pre .0 
 needs-at-requires-5 : tie.Need-needs-at-requires-5
 needs-at-requires-5 c κs = search needs
 
-empty-requires-3 : tie.Need-empty-requires-3
-empty-requires-3 c κs = search needs
+empty-requires-2 : tie.Need-empty-requires-2
+empty-requires-2 c κs = search needs
 
 plain-requires-3 : tie.Need-plain-requires-3
 plain-requires-3 c κs = search needs
@@ -134,14 +134,14 @@ sub-needs-at-4 c = after-one (c .before .before .before .before .before .pre .0 
 needs-at-requires-6 : tie.Need-needs-at-requires-6
 needs-at-requires-6 c κs = search needs
 
-empty-requires-4 : tie.Need-empty-requires-4
-empty-requires-4 c κs = search needs
+empty-requires-3 : tie.Need-empty-requires-3
+empty-requires-3 c κs = search needs
 
 plain-requires-4 : tie.Need-plain-requires-4
 plain-requires-4 c κs = search needs
 
-empty-requires-5 : tie.Need-empty-requires-5
-empty-requires-5 c κs = search needs
+empty-requires-4 : tie.Need-empty-requires-4
+empty-requires-4 c κs = search needs
 
 plain-requires-5 : tie.Need-plain-requires-5
 plain-requires-5 c κs = search needs
@@ -162,16 +162,16 @@ returns-5 : tie.Need-returns-5
 returns-5 c = while-arm (c .before .before .before .before .before .before .before .before .before .pre .0 .0) (c .before .before .before .before .before .before .before .before .before .pre .0 .1) _ (c .before .before .before .before .before .before .before .before .before .pre .1 .0) _ (sym (c .before .before .before .before .before .kind-at .ensures) ∙ c .before .before .before .before .match .keys5) (c .before .before .before .prior4 .ensures) (c .before .before .needs-at3 .ensures) (c .before .row-at6 .ensures) (c .in-loop .ensures)
 
 returns-6 : tie.Need-returns-6
-returns-6 c = return-arm (c .before .before .before .before .before .before .before .before .pre .0 .0) (c .before .before .before .before .before .before .before .before .pre .0 .1) _ (c .before .before .before .before .before .before .before .before .pre .1 .0) _ (c .before .before .needs-at4 .ensures) (sym (c .before .before .before .before .kind-at .ensures) ∙ c .before .before .before .match .keys6) (c .before .empty2 .ensures) (c .plain2 .ensures)
+returns-6 c = return-arm (c .before .before .before .before .before .before .before .before .pre .0 .0) (c .before .before .before .before .before .before .before .before .pre .0 .1) _ (c .before .before .before .before .before .before .before .before .pre .1 .0) _ (c .before .before .needs-at4 .ensures) (sym (c .before .before .before .before .kind-at .ensures) ∙ c .before .before .before .match .keys6) (c .before .full .ensures) (c .plain2 .ensures)
 
 returns-7 : tie.Need-returns-7
-returns-7 c = assert-arm (c .before .before .before .before .before .before .before .before .pre .0 .0) (c .before .before .before .before .before .before .before .before .pre .0 .1) _ (c .before .before .before .before .before .before .before .before .pre .1 .0) _ (c .before .before .needs-at5 .ensures) (sym (c .before .before .before .before .kind-at .ensures) ∙ c .before .before .before .match .keys7) (c .before .empty3 .ensures) (c .plain3 .ensures)
+returns-7 c = assert-arm (c .before .before .before .before .before .before .before .before .pre .0 .0) (c .before .before .before .before .before .before .before .before .pre .0 .1) _ (c .before .before .before .before .before .before .before .before .pre .1 .0) _ (c .before .before .needs-at5 .ensures) (sym (c .before .before .before .before .kind-at .ensures) ∙ c .before .before .before .match .keys7) (c .before .empty2 .ensures) (c .plain3 .ensures)
 
 returns-8 : tie.Need-returns-8
-returns-8 c = expr-arm (c .before .before .before .before .before .before .before .before .pre .0 .0) (c .before .before .before .before .before .before .before .before .pre .0 .1) _ (c .before .before .before .before .before .before .before .before .pre .1 .0) _ (c .before .before .needs-at6 .ensures) (sym (c .before .before .before .before .kind-at .ensures) ∙ c .before .before .before .match .keys8) (c .before .empty4 .ensures) (c .plain4 .ensures)
+returns-8 c = expr-arm (c .before .before .before .before .before .before .before .before .pre .0 .0) (c .before .before .before .before .before .before .before .before .pre .0 .1) _ (c .before .before .before .before .before .before .before .before .pre .1 .0) _ (c .before .before .needs-at6 .ensures) (sym (c .before .before .before .before .kind-at .ensures) ∙ c .before .before .before .match .keys8) (c .before .empty3 .ensures) (c .plain4 .ensures)
 
 returns-9 : tie.Need-returns-9
-returns-9 c = nop-arm (c .before .before .before .before .before .before .before .pre .0 .0) (c .before .before .before .before .before .before .before .pre .0 .1) _ (c .before .before .before .before .before .before .before .pre .1 .0) _ (none-of _ (λ e. c .before .before .match .rest .0 .0 .0 .0 .0 .0 .0 .1 (c .before .before .before .kind-at .ensures ∙ e)) (λ e. c .before .before .match .rest .0 .0 .0 .0 .0 .0 .1 (c .before .before .before .kind-at .ensures ∙ e)) (λ e. c .before .before .match .rest .0 .0 .0 .0 .0 .1 (c .before .before .before .kind-at .ensures ∙ e)) (λ e. c .before .before .match .rest .0 .0 .0 .0 .1 (c .before .before .before .kind-at .ensures ∙ e)) (λ e. c .before .before .match .rest .0 .0 .0 .1 (c .before .before .before .kind-at .ensures ∙ e)) (λ e. c .before .before .match .rest .0 .0 .1 (c .before .before .before .kind-at .ensures ∙ e)) (λ e. c .before .before .match .rest .0 .1 (c .before .before .before .kind-at .ensures ∙ e)) (λ e. c .before .before .match .rest .1 (c .before .before .before .kind-at .ensures ∙ e))) (c .before .empty5 .ensures) (c .before .empty5 .ensures) (c .plain5 .ensures)
+returns-9 c = nop-arm (c .before .before .before .before .before .before .before .pre .0 .0) (c .before .before .before .before .before .before .before .pre .0 .1) _ (c .before .before .before .before .before .before .before .pre .1 .0) _ (none-of _ (λ e. c .before .before .match .rest .0 .0 .0 .0 .0 .0 .0 .1 (c .before .before .before .kind-at .ensures ∙ e)) (λ e. c .before .before .match .rest .0 .0 .0 .0 .0 .0 .1 (c .before .before .before .kind-at .ensures ∙ e)) (λ e. c .before .before .match .rest .0 .0 .0 .0 .0 .1 (c .before .before .before .kind-at .ensures ∙ e)) (λ e. c .before .before .match .rest .0 .0 .0 .0 .1 (c .before .before .before .kind-at .ensures ∙ e)) (λ e. c .before .before .match .rest .0 .0 .0 .1 (c .before .before .before .kind-at .ensures ∙ e)) (λ e. c .before .before .match .rest .0 .0 .1 (c .before .before .before .kind-at .ensures ∙ e)) (λ e. c .before .before .match .rest .0 .1 (c .before .before .before .kind-at .ensures ∙ e)) (λ e. c .before .before .match .rest .1 (c .before .before .before .kind-at .ensures ∙ e))) (c .before .empty4 .ensures) (c .before .empty4 .ensures) (c .plain5 .ensures)
 
 pub statement-row-spec : {M : Type 1} → statement M
 statement-row-spec =
@@ -207,17 +207,17 @@ statement-row-spec =
     in-loop-requires
     sub-needs-at-2
     needs-at-requires-4
-    empty-requires-2
+    full-requires
     plain-requires-2
     sub-needs-at-3
     needs-at-requires-5
-    empty-requires-3
+    empty-requires-2
     plain-requires-3
     sub-needs-at-4
     needs-at-requires-6
-    empty-requires-4
+    empty-requires-3
     plain-requires-4
-    empty-requires-5
+    empty-requires-4
     plain-requires-5
     returns
     returns-2
