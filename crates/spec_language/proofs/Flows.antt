@@ -183,7 +183,7 @@ Scope u (Return e) = Reads e u
 Scope u (Assert e) = Reads e u
 Scope u (Expr e) = Reads e u
 
-inner-in : (u d d′ : Set) (x : ℕ) → SubIn u d d′ → SubIn (with u x) (without d x) (without d′ x)
+pub inner-in : (u d d′ : Set) (x : ℕ) → SubIn u d d′ → SubIn (with u x) (without d x) (without d′ x)
 unfolding with without
 inner-in u d d′ x h y i e =
     or-cases (u y) (eqb y x) i (λ p. both-mono _ _ _ _ (h y p) (λ q. q) e) (λ p. clash (eqb y x) p (not-true _ (and-right (d y) _ e)))

@@ -10,6 +10,7 @@ pub mod Rules
 pub mod Flows
 pub mod Subtrees
 pub mod Scoping
+pub mod Returns
 pub mod LowestRead
 pub mod Refusals
 pub mod Verdicts

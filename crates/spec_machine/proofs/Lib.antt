@@ -21,3 +21,4 @@ pub mod Safety
 pub mod SampleFiles
 pub mod Samples
 pub mod SampleRuns
+pub mod StillFit

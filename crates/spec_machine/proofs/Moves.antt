@@ -29,7 +29,7 @@ added-mono : (d d′ e : Set) → Sub d d′ → Sub (either d e) (either d′ e
 unfolding either
 added-mono d d′ e h y = either-mono (d y) (d′ y) _ _ (h y) (λ q. q)
 
-shared-mono : (a a′ b b′ : Set) → Sub a a′ → Sub b b′ → Sub (both a b) (both a′ b′)
+pub shared-mono : (a a′ b b′ : Set) → Sub a a′ → Sub b b′ → Sub (both a b) (both a′ b′)
 unfolding both
 shared-mono a a′ b b′ h k y = both-mono (a y) (a′ y) _ _ (h y) (k y)
 
