@@ -170,8 +170,8 @@ pub fn flow_from(part: &[u8], n: usize, i: usize, set: VarSet) -> Flow
             in_loop(lacking, flow_from(part, n, b, set), set)
         }
         12 => {
-            let after = set.union(VarSet::full());
-            plain(after, first_missing(part, n, i - 1, set))
+            let all = set.union(VarSet::full());
+            plain(all, first_missing(part, n, i - 1, set))
         }
         13..=14 => plain(set, first_missing(part, n, i - 1, set)),
         _ => plain(set, Found::Nothing),

@@ -131,21 +131,26 @@ rows =
     row (alone 0 2 (node 5 0 0 1 ++ node 12 0 0 2)) accepted
     ∷ []
 
+-- decl(0, int, seq(if(c, return(1), assign(0, 2)), return(x0)))
+abbrev pub guarded : ℕ → List ℕ
+guarded c = alone 1 10 (node 1 0 c 1 ++ node 0 0 1 1 ++ node 12 0 0 2 ++ node 0 0 2 1 ++ node 8 0 0 2 ++ node 10 0 0 6 ++ node 2 0 0 1 ++ node 12 0 0 2 ++ node 7 0 0 9 ++ node 9 1 0 10)
+
+-- decl(0, int, seq(return(1), return(x0)))
+abbrev pub behind : List ℕ
+behind = alone 1 6 (node 0 0 1 1 ++ node 12 0 0 2 ++ node 2 0 0 1 ++ node 12 0 0 2 ++ node 7 0 0 5 ++ node 9 1 0 6)
+
+-- decl(0, int, seq(decl(1, int, seq(return(1), assign(1, 2))), return(x0)))
+abbrev pub scoped : List ℕ
+scoped = alone 2 10 (node 0 0 1 1 ++ node 12 0 0 2 ++ node 0 0 2 1 ++ node 8 0 1 2 ++ node 7 0 0 5 ++ node 9 1 1 6 ++ node 2 0 0 1 ++ node 12 0 0 2 ++ node 7 0 0 9 ++ node 9 1 0 10)
+
+-- decl(0, int, seq(while(true, seq(return(1), expr(x0))), return(0)))
+abbrev pub turned : List ℕ
+turned = alone 1 11 (node 1 0 1 1 ++ node 0 0 1 1 ++ node 12 0 0 2 ++ node 2 0 0 1 ++ node 14 0 0 2 ++ node 7 0 0 5 ++ node 11 0 0 7 ++ node 0 0 0 1 ++ node 12 0 0 2 ++ node 7 0 0 10 ++ node 9 1 0 11)
+
 -- a return counts as giving every variable a value
 abbrev early : List Row
 early =
-    -- decl(0, int, seq(if(true, return(1), assign(0, 2)), return(x0)))
-    row (alone 1 10 (node 1 0 1 1 ++ node 0 0 1 1 ++ node 12 0 0 2 ++ node 0 0 2 1 ++ node 8 0 0 2 ++ node 10 0 0 6 ++ node 2 0 0 1 ++ node 12 0 0 2 ++ node 7 0 0 9 ++ node 9 1 0 10)) accepted
-    ∷
-    -- decl(0, int, seq(return(1), return(x0)))
-    row (alone 1 6 (node 0 0 1 1 ++ node 12 0 0 2 ++ node 2 0 0 1 ++ node 12 0 0 2 ++ node 7 0 0 5 ++ node 9 1 0 6)) accepted
-    ∷
-    -- decl(0, int, seq(decl(1, int, seq(return(1), assign(1, 2))), return(x0)))
-    row (alone 2 10 (node 0 0 1 1 ++ node 12 0 0 2 ++ node 0 0 2 1 ++ node 8 0 1 2 ++ node 7 0 0 5 ++ node 9 1 1 6 ++ node 2 0 0 1 ++ node 12 0 0 2 ++ node 7 0 0 9 ++ node 9 1 0 10)) accepted
-    ∷
-    -- decl(0, int, seq(while(true, seq(return(1), expr(x0))), return(0)))
-    row (alone 1 11 (node 1 0 1 1 ++ node 0 0 1 1 ++ node 12 0 0 2 ++ node 2 0 0 1 ++ node 14 0 0 2 ++ node 7 0 0 5 ++ node 11 0 0 7 ++ node 0 0 0 1 ++ node 12 0 0 2 ++ node 7 0 0 10 ++ node 9 1 0 11)) accepted
-    ∷
+    row (guarded 1) accepted ∷ row (guarded 0) accepted ∷ row behind accepted ∷ row scoped accepted ∷ row turned accepted ∷
     -- a decl takes its variable away: seq(return(1), decl(0, int, return(x0)))
     row (alone 1 6 (node 0 0 1 1 ++ node 12 0 0 2 ++ node 2 0 0 1 ++ node 12 0 0 2 ++ node 9 1 0 3 ++ node 7 0 0 6)) (refused 13 4 0)
     ∷

@@ -17,6 +17,7 @@ use Rattle.spec_language.specs.Statements.{prior, last, shapes, shapeAt, readsF
 use Rattle.spec_language.specs.Flow.{declares, leaves, missing, lacks, returns}
 use Rattle.spec_language.specs.Scopes.{declaresAt, declCount, declOf, under, usesVariable}
 use Rattle.spec_language.specs.Types.{paramType, varType, operatorType, typesOf, typeAt, condition, wantsOf, wantAt, suits, agree}
+use Rattle.spec_language.proofs.Samples.{guarded, behind, scoped, turned}
 use Rattle.arith.specs.Int as ints
 use Rattle.arith.specs.Operators as operators
 use Rattle.spec_machine.specs.File.{backwards, kids, andForm, looks, lookAt, refAt, formOf, formAt, ifForm, seqForm, seeAt, unrolled, looped, stmtAt, typesFrom, funOf, programOf}
@@ -75,6 +76,9 @@ record Runs : Type 0 where
   sides : Right (row short 8 (Outcome.value 2) 8 ∷ row long 8 (raised arith) 8 ∷ [])
   loops : Right (row sample 56 (Outcome.value 3) 56 ∷ row again 69 (Outcome.value 2) 69 ∷ [])
   calls : Right (row restored 26 (Outcome.value 6) 26 ∷ [])
+  early :
+      Right
+      (row (guarded 1) 8 (Outcome.value 1) 8 ∷ row (guarded 0) 12 (Outcome.value 2) 12 ∷ row behind 6 (Outcome.value 1) 6 ∷ row scoped 8 (Outcome.value 1) 8 ∷ row turned 11 (Outcome.value 1) 11 ∷ [])
   limits : Right (row endless 27 Outcome.Spent 27 ∷ row endless 28 Outcome.Spent 28 ∷ row endless 29 Outcome.Full 28 ∷ [])
   stands : map (λ a. runOf (programOf endless) a (main emptyEnv) .state) (28 ∷ 29 ∷ 10000 ∷ []) ≡ replicate 3 deepest
 
@@ -86,6 +90,7 @@ runs =
       sides = refl;
       loops = refl;
       calls = refl;
+      early = refl;
       limits = refl;
       stands = refl;
     }
