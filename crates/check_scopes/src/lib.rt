@@ -127,7 +127,7 @@ pub fn decl_table(part: &[u8], n: usize) -> [usize; VARIABLE_ENTRIES]
 }
 
 // Whether node j lies in the subtree of node d, below it.
-fn is_under(part: &[u8], d: usize, j: usize) -> bool
+pub fn is_under(part: &[u8], d: usize, j: usize) -> bool
     requires { ⌜ (12 * d + 12 ≤ length (now part)) × (12 * j + 12 ≤ length (now part)) ⌝ }
     ensures { λ r. ⌜ r ≡ under (now (part .entry)) d j ⌝ }
 {

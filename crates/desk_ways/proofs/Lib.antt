@@ -1,0 +1,3 @@
+pub mod Searches
+pub mod KnownTests
+pub mod Gaps
