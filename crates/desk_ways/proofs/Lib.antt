@@ -1,3 +1,6 @@
 pub mod Searches
 pub mod KnownTests
 pub mod Gaps
+pub mod LastGaps
+pub mod Named
+pub mod Given
