@@ -1,4 +1,6 @@
 // The reason of a refusal as a sentence, for people.
+mod ways;
+
 use desk_faults::FunctionFault;
 use desk_faults::NodeFault;
 use desk_places::Place;
@@ -249,7 +251,7 @@ fn put_fault(
             b"; ; ; takes two ints and is given something else; takes two bools and is given something else; is given an argument of another type than the parameter has; ; ; gives the variable a value of another type than it has; ; has a condition that is not a bool; has a condition that is not a bool; returns a value of another type than the function gives; asserts something that is not a bool; ; ",
             kind as usize,
         ),
-        13 => put(out, at, b" is read on a way on which it has no value"),
+        13 => ways::put_way(file, place, function, out, at),
         _ => put(out, at, b" stands outside the decl of its variable"),
     }
 }
@@ -285,9 +287,7 @@ pub fn put_sentence(
         1 => put_length(file, out, at),
         2 => put_header(file, out, at),
         3 => put_counts(file, out, at),
-        4 => put_function(file, question, place, item, out, at),
-        10 => put_function(file, question, place, item, out, at),
-        14 => put_function(file, question, place, item, out, at),
+        4 | 10 | 14 => put_function(file, question, place, item, out, at),
         7..=13 => put_node(file, question, place, out, at),
         _ => put_word(
             out,

@@ -2,7 +2,7 @@
 use mathlib.Core.Path.{_≡_, refl}
 use mathlib.Core.Bool.{Bool, true, false, _&&_}
 use mathlib.Core.List.{List}
-use Prim.Native.Nat.{ℕ, zero, suc, _≤_, _<_}
+use Prim.Native.Nat.{ℕ, zero, suc, _≤_, _<_, zero-le}
 use native.Mathlib.Nat.{not-suc-le-zero}
 use native.Mathlib.Decide.{decLt}
 use native.Mathlib.Omega.{arith}
@@ -12,7 +12,7 @@ use Rattle.varset.specs.Lowest.{pick}
 use Rattle.records.specs.Fields.{kindAt}
 use Rattle.records.proofs.Bools.{and-left, and-right, clash}
 use Rattle.spec_language.specs.Statements.{prior, last}
-use Rattle.desk_ways.specs.Ways.{onWay, gives, uneven, gapAt, orEarlier, lastGap}
+use Rattle.desk_ways.specs.Ways.{namedNode, onWay, gives, uneven, gapAt, orEarlier, lastGap}
 use Rattle.desk_ways.specs.declared.Way.{Way}
 use Rattle.desk_ways.specs.declared.Way.the-variants.{Straight, First, Second, Loop, Unknown}
 
@@ -117,3 +117,13 @@ module _ (t : List ℕ) (n x i : ℕ) where
       go true e (Second j) q s r = here m j (Second j) (s .0) e q
       go true e (Loop j) q s r = here m j (Loop j) (s .0) e q
       go true e Unknown q s r = absurd s
+
+  pub named-below : (w : Way) → w ≡ lastGap t n x i i → namedNode w ≤ i
+  named-below w e = go w (rw (← e) at (last-is i))
+    where
+      go : (v : Way) → LastOf t n x i i v → namedNode v ≤ i
+      go Straight r = zero-le
+      go (First k) r = omega (arith, r .below)
+      go (Second k) r = omega (arith, r .below)
+      go (Loop k) r = omega (arith, r .below)
+      go Unknown r = zero-le

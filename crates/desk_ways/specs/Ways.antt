@@ -19,6 +19,14 @@ use Rattle.desk_ways.specs.declared.Way.the-variants.{Straight, First, S
 abbrev pub Reads : List ℕ → ℕ → ℕ → Type 0
 Reads t n i = Known t n × (i < n) × (kindAt t i ≡ 2)
 
+-- the node that a way names, 0 where it names none
+abbrev pub namedNode : Way → ℕ
+namedNode Straight = 0
+namedNode (First k) = k
+namedNode (Second k) = k
+namedNode (Loop k) = k
+namedNode Unknown = 0
+
 -- node j is node d, or lies in its subtree
 unfoldable pub inTree : List ℕ → ℕ → ℕ → Bool
 inTree t d j = eqb j d || under t d j

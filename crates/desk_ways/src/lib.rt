@@ -16,7 +16,7 @@ ghost use Rattle.varset.specs.Lowest.{pick};
 ghost use Rattle.spec_language.specs.Nodes.{some};
 ghost use Rattle.spec_language.specs.Scopes.{declOf};
 ghost use Rattle.spec_language.specs.Known.{Known};
-ghost use Rattle.desk_ways.specs.Ways.{Reads, inTree, apart, onWay, gives, uneven, gapAt, orEarlier, lastGap, wayTo};
+ghost use Rattle.desk_ways.specs.Ways.{Reads, namedNode, inTree, apart, onWay, gives, uneven, gapAt, orEarlier, lastGap, wayTo};
 
 // How a read is reached without a value: by the branch of an if that gives none, past a while that makes no turn, or with nothing before it that gives one.
 pub enum Way {
@@ -25,6 +25,19 @@ pub enum Way {
     Second { node: usize },
     Loop { node: usize },
     Unknown,
+}
+
+// The node that a way names, 0 where it names none.
+pub fn named_node(way: Way) -> usize
+    ensures { λ r. ⌜ r ≡ namedNode way ⌝ }
+{
+    match way {
+        Way::Straight => 0,
+        Way::First { node } => node,
+        Way::Second { node } => node,
+        Way::Loop { node } => node,
+        Way::Unknown => 0,
+    }
 }
 
 // Whether node j is node d or lies in its subtree.
@@ -163,6 +176,7 @@ pub fn way_to(part: &[u8], n: usize, i: usize) -> Way
     requires { ⌜ 12 * n ≤ length (now part) ⌝ }
     ensures told { λ r. ⌜ (Reads (now (part .entry)) n i → r ≡ wayTo (now (part .entry)) n i) ⌝ }
     ensures silent { λ r. ⌜ ((Reads (now (part .entry)) n i → ⊥) → r ≡ Way.Unknown) ⌝ }
+    ensures below { λ r. ⌜ namedNode r ≤ i ⌝ }
 {
     if n <= i {
         return Way::Unknown;

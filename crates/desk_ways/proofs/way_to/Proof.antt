@@ -1,3 +1,5 @@
+use Prim.Native.Nat.{zero-le}
+use Rattle.desk_ways.proofs.LastGaps.{named-below}
 use Rattle.spec_language.specs.Scopes.{usesVariable}
 use Rattle.spec_language.specs.Known.{namesVariable}
 use Rattle.spec_language.proofs.KnownNodes.{named}
@@ -11,19 +13,19 @@ use Rattle.desk_ways.proofs.way_to.Statement.{statement}
 use Rattle.desk_ways.proofs.way_to.Tie as tie
 
 returns : tie.Need-returns
-returns c = (λ h. absurd (omega (arith, h .1)), λ h. refl)
+returns c = (λ h. absurd (omega (arith, h .1)), (λ h. refl, zero-le))
 
 kind-at-requires : tie.Need-kind-at-requires
 kind-at-requires c κs = search needs
 
 returns-2 : tie.Need-returns-2
-returns-2 c = (λ h. absurd (c .if2 .taken (c .before .kind-at .ensures ∙ h .2)), λ h. refl)
+returns-2 c = (λ h. absurd (c .if2 .taken (c .before .kind-at .ensures ∙ h .2)), (λ h. refl, zero-le))
 
 are-known-requires : tie.Need-are-known-requires
 are-known-requires c κs = search needs
 
 returns-3 : tie.Need-returns-3
-returns-3 c = (λ h. clash _ (c .before .are-known .ensures .1 (h .0)) (not-true _ (c .if3 .taken)), λ h. refl)
+returns-3 c = (λ h. clash _ (c .before .are-known .ensures .1 (h .0)) (not-true _ (c .if3 .taken)), (λ h. refl, zero-le))
 
 b-at-requires : tie.Need-b-at-requires
 b-at-requires c κs = search needs
@@ -40,7 +42,7 @@ unfolding wayTo
 returns-4 c =
     let known = c .before .before .before .are-known .ensures .0 (not-false _ (c .before .before .if3 .left)) in
     let reads = sym (c .before .before .before .before .before .kind-at .ensures) ∙ c .before .before .before .before .if2 .left in
-    (λ h. c .last-gap .ensures ∙ rw (c .before .b-at .ensures), λ h. absurd (h (known, omega arith, reads)))
+    (λ h. c .last-gap .ensures ∙ rw (c .before .b-at .ensures), (λ h. absurd (h (known, omega arith, reads)), named-below _ _ _ _ _ (c .last-gap .ensures)))
 
 pub way-to-spec : {M : Type 1} → statement M
 way-to-spec =
