@@ -195,7 +195,7 @@ impl Part<'_> {
             Frame::If(s, t) => Some(self.stmt_flow(*s)?.or(self.stmt_flow(*t)?)),
             Frame::Assign(x) if *x < 64 => Some(Flow { adds: 1 << x, ..Flow::reads(0) }),
             Frame::Assign(_) => None,
-            Frame::Return => Some(Flow { returns: true, ..Flow::reads(0) }),
+            Frame::Return => Some(Flow::reads(0).returning(self.flows.all)),
             Frame::Second { .. } | Frame::Assert | Frame::Discard => Some(Flow::reads(0)),
         }
     }

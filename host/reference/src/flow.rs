@@ -13,6 +13,8 @@ enum Task {
     Judge(usize),
     /// Add an assigned variable.
     Add(u32),
+    /// Add every variable of the function, after a return.
+    All,
     /// Take a declared variable away.
     Take(u32),
     /// Keep the set that the first branch left and judge the second from what the if found.
@@ -21,6 +23,11 @@ enum Task {
     Meet(Set),
     /// Leave a loop with what it found less what its body declares.
     Loop(Set),
+}
+
+/// The variables below a number.
+fn below(count: u8) -> Set {
+    (0..count).fold(0, |set, variable| set | 1 << variable)
 }
 
 /// For each node the variables that its subtree declares.
@@ -39,6 +46,8 @@ struct Flow<'a> {
     program: &'a Program,
     forest: &'a Forest,
     declared: &'a [Set],
+    /// Every variable of the function.
+    all: Set,
     tasks: Vec<Task>,
     lowest: Option<usize>,
 }
@@ -67,6 +76,7 @@ impl Flow<'_> {
                 let after = Task::Loop(found & !self.declared[body]);
                 self.tasks.extend([after, Task::Judge(body), Task::Judge(condition)]);
             }
+            (12, &[value]) => self.tasks.extend([Task::All, Task::Judge(value)]),
             // Expressions leave what they find and seq goes left to right, so both go child by child.
             (_, all) => self.tasks.extend(all.iter().rev().map(|&child| Task::Judge(child))),
         }
@@ -81,6 +91,7 @@ impl Flow<'_> {
             set = match task {
                 Task::Judge(node) => self.judge(node, set),
                 Task::Add(variable) => set | 1 << variable,
+                Task::All => self.all,
                 Task::Take(variable) => set & !(1 << variable),
                 Task::Second { branch, found } => {
                     self.tasks.extend([Task::Meet(set), Task::Judge(branch)]);
@@ -98,9 +109,9 @@ pub fn question_13(program: &Program, forest: &Forest) -> Result<(), Refusal> {
     let declared = declared(program, forest);
     let declared = &declared[..];
     for (_, function, part) in program.each_part() {
-        let parameters = (1 << function.params) - 1;
-        let mut flow = Flow { program, forest, declared, tasks: Vec::new(), lowest: None };
-        flow.run(part.end - 1, parameters);
+        let all = below(function.vars);
+        let mut flow = Flow { program, forest, declared, all, tasks: Vec::new(), lowest: None };
+        flow.run(part.end - 1, below(function.params));
         if let Some(node) = flow.lowest {
             return Err((13, program.node_place(node), 0));
         }

@@ -92,7 +92,7 @@ impl Body<'_> {
             9 => self.decl(node, b),
             10 => self.branch(node),
             11 => self.repeat(node),
-            12 => self.single(node, self.result, RETURNS, 0),
+            12 => self.single(node, self.result, RETURNS, u64::MAX),
             13 => self.single(node, BOOL, STATEMENT, 0),
             14 => self.discard(node),
             _ => self.leaf(node, NOTHING, 0),

@@ -17,7 +17,7 @@ fn before(part: &[u8], node: usize) -> usize {
     node.saturating_sub(word(part, node * RECORD + 8) as usize)
 }
 
-/// For each statement the variables that it assigns on every way through.
+/// For each statement the variables that it assigns on every way through; a return counts for all.
 fn assigned(part: &[u8]) -> Vec<u64> {
     let count = part.len() / RECORD;
     let mut sets = vec![0u64; count];
@@ -27,6 +27,7 @@ fn assigned(part: &[u8]) -> Vec<u64> {
             8 => 1 << b(part, node),
             9 => sets[node - 1] & !(1 << b(part, node)),
             10 => sets[node - 1] & sets[before(part, node - 1)],
+            12 => u64::MAX,
             _ => 0,
         };
     }

@@ -22,7 +22,7 @@ pub struct Entry {
     pub size: u32,
     /// The variables it may read before it assigns them.
     pub reads: u64,
-    /// The variables it assigns on every way through.
+    /// The variables it assigns on every way through; a return counts for all.
     pub sets: u64,
 }
 

@@ -27,6 +27,11 @@ impl Flow {
         Flow { adds: 0, keeps: Set::MAX, needs, hopeless: false, returns: false }
     }
 
+    /// Returns, which counts as giving a value to all these variables.
+    pub fn returning(self, all: Set) -> Flow {
+        Flow { adds: self.adds | all, returns: true, ..self }
+    }
+
     /// The set that is left where this one was found.
     pub fn leaves(&self, found: Set) -> Set {
         self.adds | (found & self.keeps)
@@ -85,6 +90,8 @@ pub fn nop() -> Flow {
 
 /// The tables of one function.
 pub struct Flows {
+    /// Every variable of the function.
+    pub all: Set,
     /// For each expression the variables that it reads, for each statement its flow.
     nodes: Vec<Flow>,
     /// For each node the variables that it declares.
@@ -94,7 +101,8 @@ pub struct Flows {
 impl Flows {
     /// Fills the tables from the children up.
     pub fn new(function: &Function) -> Flows {
-        let mut flows = Flows { nodes: Vec::new(), declares: Vec::new() };
+        let all = (0..function.vars.len()).fold(0, |set, variable| set | 1 << variable);
+        let mut flows = Flows { all, nodes: Vec::new(), declares: Vec::new() };
         for node in &function.nodes {
             let (flow, declared) = match node {
                 Node::Expr(e) => (Flow::reads(flows.reads_of(e)), 0),
@@ -167,7 +175,7 @@ impl Flows {
                 let needs = self.reads(e) | turn.needs;
                 Flow { keeps: !self.d(s), hopeless: turn.hopeless, ..Flow::reads(needs) }
             }
-            Stmt::Return(e) => Flow { returns: true, ..self.e(e) },
+            Stmt::Return(e) => self.e(e).returning(self.all),
             Stmt::Assert(e) | Stmt::Discard(e) => self.e(e),
         }
     }

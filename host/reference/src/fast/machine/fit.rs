@@ -205,7 +205,7 @@ impl Judge<'_> {
             }
             (7, ty) if ty == self.result => {
                 *returns = true;
-                Some((NONE, found))
+                Some((NONE, u64::MAX))
             }
             (8, 2) => Some((NONE, found)),
             (9, 0..=2) => Some((NONE, found)),

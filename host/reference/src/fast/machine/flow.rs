@@ -107,7 +107,8 @@ impl<'a> Tables<'a> {
                 let declares = body.declares;
                 Flow { adds: 0, keeps: !declares, needs, declares, returns: false }
             }
-            kind => Flow { returns: kind == 12, ..self.flows[node - 1] },
+            12 => Flow { adds: u64::MAX, returns: true, ..self.flows[node - 1] },
+            _ => self.flows[node - 1],
         }
     }
 
