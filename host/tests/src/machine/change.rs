@@ -64,7 +64,8 @@ fn put(rng: &mut Rng, words: &mut [u32], at: usize) -> Old {
 
 /// Gives a variable, or a frame's first slot, any value of any type.
 fn revalue(rng: &mut Rng, words: &mut [u32]) -> Vec<Old> {
-    let activation = ACTIVATIONS + ACTIVATION * rng.below((words[2] as usize).clamp(1, MOST_ACTIVATIONS));
+    let activation =
+        ACTIVATIONS + ACTIVATION * rng.below((words[2] as usize).clamp(1, MOST_ACTIVATIONS));
     let vars = (words[activation + 2] as usize).min(64);
     let at = if rng.one_in(4) {
         FRAMES + FRAME * rng.below((words[activation + 1] as usize).clamp(1, 512)) + 4
@@ -81,7 +82,8 @@ fn revalue(rng: &mut Rng, words: &mut [u32]) -> Vec<Old> {
 
 /// The word of a value that is held, if the one that was tried is.
 fn held(rng: &mut Rng, words: &[u32]) -> Option<usize> {
-    let activation = ACTIVATIONS + ACTIVATION * rng.below((words[2] as usize).clamp(1, MOST_ACTIVATIONS));
+    let activation =
+        ACTIVATIONS + ACTIVATION * rng.below((words[2] as usize).clamp(1, MOST_ACTIVATIONS));
     let vars = (words[activation + 2] as usize).min(64);
     let ty = activation + ACTIVATION_HEAD + 2 * rng.below(vars);
     (words[0] == 2 && words[ty] != 0).then_some(ty + 1)
