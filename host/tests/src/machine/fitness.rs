@@ -8,6 +8,7 @@ use generators::File;
 use reference::image::{encode_into, MOST_ACTIVATIONS, MOST_FRAMES, WORDS};
 use reference::machine::{Activation, Control, Frame, Ref, Running, State, Value};
 
+mod early;
 mod sample;
 
 /// A state with what the fit paragraph says of it.
@@ -30,7 +31,8 @@ fn act(function: usize, vars: &[Value], frames: &[Frame]) -> Activation {
 
 /// The file that the cases are about.
 fn sample_file() -> File {
-    file(&[sample::f0(), sample::f1(), sample::f2(), sample::f3(), sample::f4(), sample::f5()])
+    use sample::{f0, f1, f2, f3, f4, f5};
+    file(&[f0(), f1(), f2(), f3(), f4(), f5(), early::f6()])
 }
 
 /// The reference's verdicts on the states themselves, and its run of the file.

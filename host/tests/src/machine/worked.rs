@@ -36,6 +36,33 @@ fn counts_down(n: i32) -> File {
     file(&[function(INT, 0, ret(call(1, vec![int(n)]))), taking(INT, 1, 0, 1, body)])
 }
 
+/// A statement under an int x0, and `return x0` after it.
+fn then_read(statement: Stmt) -> File {
+    main(1, decl(0, INT, seq(statement, ret(var(0)))))
+}
+
+/// `if(c, return e, x0 = 2)` and a read of x0 after it.
+fn guard(c: Expr, e: Expr) -> File {
+    then_read(if_else(c, ret(e), assign(0, int(2))))
+}
+
+/// Early returns before reads that cannot come to pass.
+fn early_returns() -> Vec<Row> {
+    let early = || ret(int(1));
+    let two = seq(decl(1, INT, seq(early(), assign(1, int(2)))), ret(var(0)));
+    let turn = while_do(boolean(true), seq(early(), discard(var(0))));
+    let skipped = while_do(boolean(false), seq(early(), discard(var(0))));
+    let within = |s: Stmt| main(1, decl(0, INT, seq(s, ret(int(0)))));
+    vec![
+        row("a guard that is not taken", guard(boolean(false), int(1)), Value(2), 12),
+        row("a guard that divides by 0", guard(boolean(true), op(DIV, int(1), int(0))), Arith, 9),
+        row("a return before a read", then_read(early()), Value(1), 6),
+        row("a return under another decl", main(2, decl(0, INT, two)), Value(1), 8),
+        row("a return before a read in a loop", within(turn), Value(1), 11),
+        row("a loop of no turn with such a read", within(skipped), Value(0), 10),
+    ]
+}
+
 /// The paper's rows that run.
 pub fn table() -> Vec<Row> {
     let zero = || main(0, ret(int(0)));
@@ -54,17 +81,18 @@ pub fn table() -> Vec<Row> {
         operator("return −1>>1", SHR, -1, 1, -1),
         row("seq(assert false, return 0)", main(0, abort), Abort, 4),
         row("return f(), f: return f()", calls_itself(), Full, 28),
+        row("decl(0, int, seq(if(..), return var 0))", guard(boolean(true), int(1)), Value(1), 8),
         spent,
     ]
 }
 
-/// The paper's rows that are refused.
+/// The paper's rows that are refused, and a read after a loop of an early return.
 pub fn refused() -> Vec<(File, Refusal)> {
-    let one_side = if_else(boolean(true), ret(int(1)), assign(0, int(2)));
+    let turn = while_do(boolean(true), ret(int(1)));
     vec![
         (main(0, nop()), (14, 1, 0)),
         (main(1, decl(0, INT, ret(var(0)))), (13, 2, 0)),
-        (main(1, decl(0, INT, seq(one_side, ret(var(0))))), (13, 8, 0)),
+        (then_read(turn), (13, 6, 0)),
     ]
 }
 
@@ -138,7 +166,7 @@ fn comparisons() -> Vec<Row> {
 
 /// More runs.
 pub fn more() -> Vec<Row> {
-    others().into_iter().chain(comparisons()).collect()
+    others().into_iter().chain(comparisons()).chain(early_returns()).collect()
 }
 
 /// Operators at their limits, and runs of every kind.

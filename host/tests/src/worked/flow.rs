@@ -24,6 +24,8 @@ fn branch(s: Stmt, t: Stmt) -> Stmt {
 pub fn question_13() -> Group {
     let mut g = Group::new("question 13");
     leaves(&mut g);
+    returns(&mut g);
+    guards(&mut g);
     places(&mut g);
     scopes(&mut g);
     expressions(&mut g);
@@ -41,13 +43,10 @@ fn leaves(g: &mut Group) {
     g.refused("nop adds nothing", then_read(nop()), 13, 3);
     g.refused("if, the first assigns", then_read(branch(set(), nop())), 13, 7);
     g.refused("if, the second assigns", then_read(branch(nop(), set())), 13, 7);
-    g.refused("if, the first returns", then_read(branch(ret(int(1)), set())), 13, 8);
-    g.refused("if, the second returns", then_read(branch(set(), ret(int(1)))), 13, 8);
     g.accepted("if, assigned before", then_read(seq(set(), branch(nop(), nop()))));
     g.refused("while", then_read(while_do(boolean(true), set())), 13, 6);
     g.accepted("while, assigned before", then_read(seq(set(), while_do(boolean(true), nop()))));
     g.refused("assert", then_read(assert_that(boolean(true))), 13, 4);
-    g.refused("return", then_read(ret(int(1))), 13, 4);
     g.refused("kind 14", then_read(discard(int(1))), 13, 4);
     g.accepted(
         "assign under another decl",
@@ -65,6 +64,56 @@ fn leaves(g: &mut Group) {
     );
     let other = main(2, decl(0, INT, decl(1, INT, seq(assign(1, int(1)), ret(var(0))))));
     g.refused("another variable assigned", other, 13, 4);
+}
+
+/// A return counts as giving every variable of the function a value, after its own expression.
+fn returns(g: &mut Group) {
+    let early = || ret(int(1));
+    g.accepted("return", then_read(early()));
+    g.accepted("if, the first returns", then_read(branch(early(), set())));
+    g.accepted("if, the second returns", then_read(branch(set(), early())));
+    g.accepted("if, both return", then_read(branch(early(), early())));
+    g.refused("if, the other side does nothing", then_read(branch(early(), nop())), 13, 7);
+    g.refused("if, the first does nothing", then_read(branch(nop(), early())), 13, 7);
+    let own = branch(ret(var(0)), set());
+    g.refused("a return's own expression", then_read(own), 13, 3);
+    let own = main(1, decl(0, INT, seq(ret(var(0)), ret(var(0)))));
+    g.refused("a return's own expression before another", own, 13, 2);
+    let all = (0..64).fold(ret(int(0)), |s, x| seq(assert_that(op(EQ, var(x), int(x as i32))), s));
+    let all = (0..64).fold(seq(early(), all), |s, x| decl(x, INT, s));
+    g.accepted("all 64 variables", main(64, all));
+    let callee = taking(INT, 1, 0, 2, decl(1, INT, seq(ret(var(0)), ret(var(1)))));
+    g.accepted("beside a parameter", two(ret(int(0)), callee));
+    let callee = function(INT, 1, decl(0, INT, ret(var(0))));
+    g.refused("main's return does not count in f1", two(seq(early(), nop()), callee), 13, 7);
+}
+
+/// What decls and loops take away, though a return stands in them or before them.
+fn guards(g: &mut Group) {
+    let early = || ret(int(1));
+    let other = |s: Stmt| main(2, decl(0, INT, seq(decl(1, INT, s), ret(var(0)))));
+    g.accepted("under another decl", other(seq(early(), assign(1, int(2)))));
+    g.refused("before its decl", main(1, seq(early(), decl(0, INT, ret(var(0))))), 13, 4);
+    let below = seq(early(), seq(nop(), decl(0, INT, decl(1, INT, ret(var(1))))));
+    g.refused("before two decls", main(2, below), 13, 5);
+    let turn = |s: Stmt| while_do(boolean(true), s);
+    g.refused("a loop of a return", then_read(turn(early())), 13, 6);
+    let guard = turn(branch(early(), set()));
+    g.refused("a guard in a loop, read after it", then_read(guard), 13, 10);
+    let inside = |s: Stmt| main(1, decl(0, INT, seq(turn(s), ret(int(0)))));
+    g.accepted("read in the same turn", inside(seq(early(), discard(var(0)))));
+    let guard = || branch(early(), set());
+    g.accepted("a guard and a read in one turn", inside(seq(guard(), discard(var(0)))));
+    g.refused("read in the next turn", inside(seq(discard(var(0)), early())), 13, 3);
+    let again = |s: Stmt| main(1, seq(turn(decl(0, INT, s)), ret(int(0))));
+    g.accepted("a decl in a loop, guarded", again(seq(guard(), discard(var(0)))));
+    g.refused("a decl in a loop, read first", again(seq(discard(var(0)), early())), 13, 3);
+    let before = seq(early(), seq(turn(nop()), discard(var(0))));
+    g.accepted("a return before a loop", then_read(before));
+    let nested = branch(branch(early(), set()), branch(set(), seq(early(), nop())));
+    g.accepted("nested guards", then_read(nested));
+    let nested = branch(branch(early(), nop()), early());
+    g.refused("nested guards, one way without", then_read(nested), 13, 11);
 }
 
 /// The lowest place among several reads and several functions.

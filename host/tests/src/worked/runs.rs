@@ -24,7 +24,7 @@ pub fn group() -> Group {
     g.refused("decl(0, int, return var 0)", main(1, decl(0, INT, ret(var(0)))), 13, 2);
     let one_side = if_else(boolean(true), ret(int(1)), assign(0, int(2)));
     let both = decl(0, INT, seq(one_side, ret(var(0))));
-    g.refused("decl(0, int, seq(if(..), return var 0))", main(1, both), 13, 8);
+    g.accepted("decl(0, int, seq(if(..), return var 0))", main(1, both));
     let turn = while_do(boolean(true), nop());
     g.accepted("while(true, nop) before a return", main(0, seq(turn.clone(), ret(int(0)))));
     g.refused("while(true, nop) alone", main(0, turn), 14, 1);

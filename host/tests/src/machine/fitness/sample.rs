@@ -50,12 +50,12 @@ fn main_waits() -> Activation {
 }
 
 /// A state of main alone.
-fn alone(control: Control, vars: &[Value], frames: &[Frame]) -> State {
+pub fn alone(control: Control, vars: &[Value], frames: &[Frame]) -> State {
     over(control, vec![act(0, vars, frames)])
 }
 
 /// A state of a function called by main.
-fn called(function: usize, control: Control, vars: &[Value], frames: &[Frame]) -> State {
+pub fn called(function: usize, control: Control, vars: &[Value], frames: &[Frame]) -> State {
     over(control, vec![main_waits(), act(function, vars, frames)])
 }
 
@@ -76,16 +76,22 @@ pub fn tower(activations: usize, waits: usize) -> State {
 /// All cases.
 pub fn cases() -> Vec<Case> {
     let mut cases = Vec::new();
-    for (fit, list) in
-        [(true, fit()), (false, unfit()), (true, fit_loops()), (false, unfit_loops())]
-    {
+    let lists = [
+        (true, fit()),
+        (false, unfit()),
+        (true, fit_loops()),
+        (false, unfit_loops()),
+        (true, early::fit()),
+        (false, early::unfit()),
+    ];
+    for (fit, list) in lists {
         cases.extend(list.into_iter().map(|(name, state)| Case { name, state, fit }));
     }
     cases
 }
 
 /// A named state.
-type Named = (&'static str, State);
+pub type Named = (&'static str, State);
 
 /// States that are fit.
 fn fit() -> Vec<Named> {
@@ -133,7 +139,7 @@ fn unfit() -> Vec<Named> {
     vec![
         ("no activation", over(V(Int(1)), vec![])),
         ("main not outermost", over(S(N(3)), vec![act(2, &[Int(5)], &[])])),
-        ("no such function", called(6, V(Int(1)), &[], &[Frame::Return])),
+        ("no such function", called(7, V(Int(1)), &[], &[Frame::Return])),
         ("a caller without frames", over(S(N(9)), vec![act(0, &none, &[]), act(0, &none, &[])])),
         ("assign over return", alone(V(Int(5)), &none, &assign)),
         ("discard over return", alone(V(Int(5)), &none, &[Frame::Discard, Frame::Return])),
@@ -149,7 +155,6 @@ fn unfit() -> Vec<Named> {
         ("a nop's node", alone(S(N(10)), &none, &[W(N(9))])),
         ("the if of what is no while", alone(S(IfOf(11)), &[Int(1), Bool(true)], &[W(N(9))])),
         ("an expression executed", alone(S(N(20)), &[Int(1), Empty], &[W(N(9))])),
-        ("a return over an empty read", alone(V(Int(5)), &none, &[Frame::Return, W(N(21))])),
         ("an empty read", alone(E(20), &none, &[Frame::Return])),
         ("a bool in an int", alone(S(N(9)), &[Bool(true), Empty], &[])),
         ("an int in a bool", alone(S(N(9)), &[Empty, Int(1)], &[])),
