@@ -6,10 +6,10 @@ use generators::rng::Rng;
 use generators::tree::{int, main, ret};
 use generators::{lively, shapes, File};
 
-/// The first random program of four functions or more and close to 200 nodes.
+/// The first random program of four functions or more and close to 200 nodes, the same one for every release.
 pub fn typical() -> File {
     let fits = |file: &File| file.nodes.len().abs_diff(200) <= 10 && file.functions.len() >= 4;
-    let drawn = (0..10_000).map(|seed| lively::draw(&mut Rng::new(seed)));
+    let drawn = (0..10_000).map(|seed| lively::draw_plain(&mut Rng::new(seed)));
     drawn.into_iter().find(fits).unwrap_or_else(|| shapes::functions(200))
 }
 
@@ -22,6 +22,7 @@ pub fn print(name: &str) {
         ("typical", typical()),
         ("largest: 50,700 bytes", shapes::functions(4096)),
         ("largest in one function", shapes::decls(4096)),
+        ("largest of early returns in guards", shapes::guards(4096)),
         ("deepest statement: 2,047 seqs", shapes::seq_left(4096)),
         ("deepest expression: 4,090 calls", shapes::calls(4096)),
     ];

@@ -3,6 +3,7 @@
 //! Each takes a file that passes the check; where the file has no place for the defect it is
 //! left as it is, and a defect may happen to fail an earlier question.
 
+use crate::aimed_reads::reads;
 use crate::record::{File, NodeRecord};
 use crate::rng::Rng;
 
@@ -153,7 +154,7 @@ fn sizes(file: &mut File, rng: &mut Rng) {
 }
 
 /// The numbers of the nodes that pass a test.
-fn where_nodes(file: &File, test: impl Fn(&NodeRecord) -> bool) -> Vec<usize> {
+pub(crate) fn where_nodes(file: &File, test: impl Fn(&NodeRecord) -> bool) -> Vec<usize> {
     (0..file.nodes.len()).filter(|&i| test(&file.nodes[i])).collect()
 }
 
@@ -183,7 +184,7 @@ fn decls(file: &mut File, rng: &mut Rng) {
 }
 
 /// Gives one node of a kind in the list another variable of its function.
-fn rename(file: &mut File, rng: &mut Rng, kinds: &[u8]) {
+pub(crate) fn rename(file: &mut File, rng: &mut Rng, kinds: &[u8]) {
     let named = where_nodes(file, |node| kinds.contains(&node.kind));
     if let Some(&at) = rng.pick(&named) {
         let vars = file.functions[file.owner(at)].vars;
@@ -235,28 +236,6 @@ fn types(file: &mut File, rng: &mut Rng) {
             }
         }
     }
-}
-
-/// Question 13: a constant turned into a read, or another variable assigned.
-fn reads(file: &mut File, rng: &mut Rng) {
-    let constants = where_nodes(file, |node| node.kind == 0);
-    let under: Vec<(usize, u32)> = scoped(file, &constants);
-    match rng.pick(&under) {
-        Some(&(at, x)) if !rng.one_in(4) => file.nodes[at] = NodeRecord::new(2, 0, x, 1),
-        _ => rename(file, rng, &[8]),
-    }
-}
-
-/// The nodes of a list that stand under decls of ints, with one such variable each.
-fn scoped(file: &File, nodes: &[usize]) -> Vec<(usize, u32)> {
-    let mut found = Vec::new();
-    for decl in where_nodes(file, |node| node.kind == 9 && node.a == 1) {
-        let NodeRecord { b, size, .. } = file.nodes[decl];
-        let first = nodes.partition_point(|&node| node as u64 + u64::from(size) <= decl as u64);
-        let end = nodes.partition_point(|&node| node < decl);
-        found.extend(nodes[first..end].iter().take(64).map(|&node| (node, b)));
-    }
-    found
 }
 
 /// Question 14: a return turned into an expression as statement.

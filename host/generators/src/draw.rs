@@ -27,7 +27,7 @@ impl<'a> Body<'a> {
     pub fn new(rng: &'a mut Rng, plan: &'a Plan, own: &Signature) -> Body<'a> {
         let params = (1 << own.params.len()) - 1;
         let types = own.params.clone();
-        let decls = if plan.names == Names::Touched { 3 } else { 0 };
+        let decls = if matches!(plan.names, Names::Touched | Names::Early) { 3 } else { 0 };
         Body {
             rng,
             plan,
@@ -50,7 +50,8 @@ impl<'a> Body<'a> {
         match self.plan.names {
             Names::Valued => self.valued,
             Names::Touched if self.rng.one_in(3) => self.touched & self.scope,
-            Names::Touched => self.valued,
+            Names::Early if self.rng.one_in(8) => self.scope,
+            Names::Touched | Names::Early => self.valued,
             Names::Scoped => self.scope,
             Names::Any => u64::MAX,
         }

@@ -1,7 +1,7 @@
 //! Random statements of an exact number of nodes.
 
 use crate::draw::Body;
-use crate::tree::{self, Stmt, BOOL, INT};
+use crate::tree::{self, Expr, Stmt, BOOL, INT};
 
 /// Whether a statement of so many nodes can always be made to return.
 fn can_return(size: usize) -> bool {
@@ -27,7 +27,10 @@ impl Body<'_> {
         }
         match (size, returns) {
             (2, false) => tree::discard(self.leaf(INT)),
-            (2, true) => tree::ret(self.leaf(self.result)),
+            (2, true) => {
+                let value = self.leaf(self.result);
+                self.left(value)
+            }
             (3, true) => self.decl(3, true),
             (5, true) => tree::seq(self.stmt(2, false), self.stmt(2, true)),
             _ => tree::seq(tree::nop(), self.stmt(size - 2, returns)),
@@ -77,7 +80,18 @@ impl Body<'_> {
     /// A return.
     fn ret(&mut self, size: usize) -> Option<Stmt> {
         let ty = self.result;
-        self.plan.feasible(size - 1, ty).then(|| tree::ret(self.expr(size - 1, ty)))
+        if !self.plan.feasible(size - 1, ty) {
+            return None;
+        }
+        let value = self.expr(size - 1, ty);
+        Some(self.left(value))
+    }
+
+    /// A return of a value, after which every variable counts as having one.
+    fn left(&mut self, value: Expr) -> Stmt {
+        self.valued |= self.scope;
+        self.touched |= self.scope;
+        tree::ret(value)
     }
 
     /// An assign of a variable in scope.
@@ -126,6 +140,13 @@ impl Body<'_> {
         }
     }
 
+    /// Which sides of an if return: both if it must, else one at times, as in a guard.
+    fn leaving(&mut self, sizes: [usize; 2], returns: bool) -> [bool; 2] {
+        let guard = !returns && self.rng.one_in(4);
+        let side = self.rng.below(2);
+        [0, 1].map(|i| returns || (guard && i == side && can_return(sizes[i])))
+    }
+
     /// An if, of which both sides return if it must.
     fn branch(&mut self, size: usize, returns: bool) -> Option<Stmt> {
         let least = if returns { 2 } else { 1 };
@@ -136,11 +157,12 @@ impl Body<'_> {
         if returns && !(can_return(left) && can_return(right)) {
             return None;
         }
+        let leaving = self.leaving([left, right], returns);
         let condition = self.expr(test, BOOL);
         let found = self.valued;
-        let first = self.stmt(left, returns);
+        let first = self.stmt(left, leaving[0]);
         let after = std::mem::replace(&mut self.valued, found);
-        let second = self.stmt(right, returns);
+        let second = self.stmt(right, leaving[1]);
         self.valued &= after;
         Some(tree::if_else(condition, first, second))
     }

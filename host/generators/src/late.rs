@@ -7,8 +7,8 @@ use crate::tree::*;
 /// A shape with a question's number in its name, and its bytes for so many nodes.
 pub type Late = (&'static str, fn(usize) -> Vec<u8>);
 
-/// One file for each question, in order.
-pub const ALL: [Late; 14] = [
+/// One file for each question, in order, and one more for early returns.
+pub const ALL: [Late; 15] = [
     ("refused by 1", |nodes| shapes::functions(nodes).bytes()[1..].to_vec()),
     ("refused by 2", |nodes| shapes::functions(nodes).with(|f| f.header.zeros[3] = 1).bytes()),
     ("refused by 3", |nodes| shapes::functions(nodes).with(add_nop).bytes()),
@@ -23,6 +23,7 @@ pub const ALL: [Late; 14] = [
     ("refused by 12", |nodes| main(0, ret(op(LT, sum(nodes - 4), int(1)))).bytes()),
     ("refused by 13", empty_read),
     ("refused by 14", |nodes| without_return(shapes::seq_right(nodes))),
+    ("refused by 13, a guard in a loop", guard_in_loop),
 ];
 
 /// Puts one node more at the end.
@@ -56,6 +57,15 @@ fn empty_read(nodes: usize) -> Vec<u8> {
     let body = (0..(nodes - 10) / 3).fold(ret(var(1)), |s, _| seq(discard(var(0)), s));
     let all = seq(assign(0, int(1)), body);
     main(2, decl(0, INT, decl(1, INT, all))).bytes()
+}
+
+/// Guards with early returns, of which the last stands in a loop, and a read of what it alone sets.
+fn guard_in_loop(nodes: usize) -> Vec<u8> {
+    let guard = |x| if_else(op(LT, var(0), int(1)), ret(int(2)), assign(x, int(3)));
+    let last = seq(while_do(boolean(true), guard(2)), ret(var(2)));
+    let body = (0..(nodes - 22) / 12).fold(last, |s, _| seq(guard(1), seq(discard(var(1)), s)));
+    let all = seq(assign(0, int(1)), body);
+    main(3, decl(0, INT, decl(1, INT, decl(2, INT, all)))).bytes()
 }
 
 /// A file with its first return turned into an expression as statement.

@@ -1,6 +1,7 @@
 //! Generators of procedure files: built from trees, drawn at random, and spoilt.
 
 pub mod aimed;
+mod aimed_reads;
 pub mod depth;
 mod draw;
 mod draw_stmt;

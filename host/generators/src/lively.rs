@@ -16,12 +16,22 @@ pub(crate) struct Signature {
 
 /// A random program that passes the check.
 pub fn draw(rng: &mut Rng) -> File {
+    drawn(rng, true)
+}
+
+/// A random program that passes the check of every release: no read needs an early return.
+pub fn draw_plain(rng: &mut Rng) -> File {
+    drawn(rng, false)
+}
+
+/// A random program, with reads that need early returns or without.
+fn drawn(rng: &mut Rng, early: bool) -> File {
     loop {
         let functions = if rng.one_in(5) { 1 } else { rng.between(2, 6) };
         let signatures: Vec<Signature> = (0..functions).map(|i| signature(rng, i == 0)).collect();
         let room = rng.between(10, 80);
         let bodies: Vec<Function> =
-            (0..functions).map(|i| function(rng, &signatures, i, room)).collect();
+            (0..functions).map(|i| function(rng, &signatures, i, room, early)).collect();
         let mut file = tree::file(&bodies);
         if file.nodes.len() <= 4096 {
             (0..functions).for_each(|i| valid::shuffle_variables(rng, &mut file, i));
@@ -46,9 +56,16 @@ fn signature(rng: &mut Rng, main: bool) -> Signature {
 }
 
 /// A function with a random body of about so many statements.
-fn function(rng: &mut Rng, signatures: &[Signature], number: usize, room: usize) -> Function {
+fn function(
+    rng: &mut Rng,
+    signatures: &[Signature],
+    number: usize,
+    room: usize,
+    early: bool,
+) -> Function {
     let own = &signatures[number];
     let mut body = Body::new(rng, signatures, number, room);
+    body.early = early;
     let tree = if own.recursive { body.recursion() } else { body.ending(4) };
     let vars = body.variables() as u8;
     let bits = own.params.iter().enumerate();

@@ -21,6 +21,8 @@ pub(crate) struct Body<'a> {
     locked: u64,
     /// Whether a call of the function itself comes to an end here.
     pub may_recurse: bool,
+    /// Whether reads may need that a return counts as giving every variable a value.
+    pub early: bool,
 }
 
 impl<'a> Body<'a> {
@@ -34,8 +36,8 @@ impl<'a> Body<'a> {
         let own = &signatures[number];
         let params = (1 << own.params.len()) - 1;
         let (types, locked) = (own.params.clone(), u64::from(own.recursive));
-        let (scope, valued, may_recurse) = (params, params, false);
-        Body { rng, signatures, number, room, types, scope, valued, locked, may_recurse }
+        let (scope, valued, may_recurse, early) = (params, params, false, true);
+        Body { rng, signatures, number, room, types, scope, valued, locked, may_recurse, early }
     }
 
     /// The number of variables so far.
@@ -55,13 +57,12 @@ impl<'a> Body<'a> {
 
     /// A random statement that returns.
     pub fn ending(&mut self, depth: usize) -> Stmt {
-        let ty = self.signatures[self.number].result;
         if depth == 0 || self.room == 0 {
-            return tree::ret(self.expr(ty, 1));
+            return self.leave(1);
         }
         self.room -= 1;
         match self.rng.below(12) {
-            0 => tree::ret(self.expr(ty, depth)),
+            0 => self.leave(depth),
             1 => {
                 let condition = self.expr(BOOL, 2);
                 let found = self.valued;
@@ -77,13 +78,26 @@ impl<'a> Body<'a> {
         }
     }
 
-    /// A decl of a new variable, mostly with a value at once.
+    /// A return, after which every variable counts as having a value.
+    fn leave(&mut self, depth: usize) -> Stmt {
+        let value = self.expr(self.signatures[self.number].result, depth);
+        if self.early {
+            self.valued |= self.scope;
+        }
+        tree::ret(value)
+    }
+
+    /// A decl of a new variable, mostly with a value at once or after a guard.
     fn decl(&mut self, then: impl FnOnce(&mut Self) -> Stmt) -> Stmt {
         let x = self.types.len() as u32;
         let ty = 1 + self.rng.below(2) as u8;
         self.types.push(ty);
         self.scope |= 1 << x;
-        let first = (!self.rng.one_in(4)).then(|| self.set(x));
+        let first = if self.early && self.rng.one_in(6) {
+            Some(self.guarded(|body| body.set(x)))
+        } else {
+            (!self.rng.one_in(4)).then(|| self.set(x))
+        };
         let rest = then(self);
         self.scope &= !(1 << x);
         self.valued &= !(1 << x);
@@ -102,7 +116,11 @@ impl<'a> Body<'a> {
 
     /// An assign of a random variable in scope that is no counter.
     fn assign(&mut self) -> Option<Stmt> {
-        let can = self.scope & !self.locked;
+        self.assign_of(self.scope & !self.locked)
+    }
+
+    /// An assign of a random variable of a set.
+    fn assign_of(&mut self, can: u64) -> Option<Stmt> {
         let all: Vec<u32> = (0..self.types.len() as u32).filter(|x| (can >> x) & 1 == 1).collect();
         let x = *self.rng.pick(&all)?;
         Some(self.set(x))
@@ -126,16 +144,39 @@ impl<'a> Body<'a> {
             }
             12 => tree::nop(),
             13 if self.rng.one_in(12) => self.endless(depth),
-            14 if self.rng.one_in(2) => {
-                let (condition, found) = (self.expr(BOOL, 2), self.valued);
-                let leave = self.ending(1);
-                self.valued &= found;
-                tree::if_else(condition, leave, tree::nop())
+            14 if self.rng.one_in(2) => self.guard(depth),
+            15 if self.early && self.rng.one_in(8) => {
+                let first = self.ending(1);
+                tree::seq(first, self.stmt(depth - 1))
             }
             _ => {
                 let first = self.stmt(depth - 1);
                 tree::seq(first, self.stmt(depth - 1))
             }
+        }
+    }
+
+    /// An if that leaves the function on one side and on the other does nothing, or sets what has no value.
+    fn guard(&mut self, depth: usize) -> Stmt {
+        self.guarded(|body| {
+            if !body.early || body.rng.one_in(3) {
+                return tree::nop();
+            }
+            let unset = body.scope & !body.valued;
+            body.assign_of(unset).unwrap_or_else(|| body.stmt(depth - 1))
+        })
+    }
+
+    /// An if that leaves the function on one side and on the other goes on.
+    fn guarded(&mut self, on: impl FnOnce(&mut Self) -> Stmt) -> Stmt {
+        let (condition, found) = (self.expr(BOOL, 2), self.valued);
+        let leave = self.ending(1);
+        self.valued &= found;
+        let on = on(self);
+        if self.early && self.rng.one_in(4) {
+            tree::if_else(condition, on, leave)
+        } else {
+            tree::if_else(condition, leave, on)
         }
     }
 

@@ -14,6 +14,8 @@ pub enum Names {
     Valued,
     /// Reads also of variables assigned on some way before, so that ifs and whiles decide 13.
     Touched,
+    /// Reads also of variables without a value among early returns, so that returns, decls and whiles decide 13.
+    Early,
     /// Reads of all variables in scope, so that questions 13 and 14 decide.
     Scoped,
     /// All variables so far, so that questions 11, 13 and 14 decide.
@@ -60,8 +62,10 @@ impl Plan {
         };
         let mut weights = std::array::from_fn(|_| [1, 2, 4, 9][rng.below(4)]);
         let (call_rate, mut small) = (rng.between(1, 8), [4, 8, 24, 4096][rng.below(4)]);
-        if names == Names::Touched {
-            (weights, share, small) = ([9, 3, 6, 1, 9, 1, 9, 6], Share::Any, 6);
+        match names {
+            Names::Touched => (weights, share, small) = ([9, 3, 6, 1, 9, 1, 9, 6], Share::Any, 6),
+            Names::Early => (weights, share, small) = ([6, 3, 6, 6, 9, 2, 9, 6], Share::Any, 6),
+            _ => {}
         }
         Plan { signatures, names, callees, least, share, weights, call_rate, small }
     }

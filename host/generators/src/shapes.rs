@@ -7,7 +7,7 @@ use crate::tree::*;
 pub type Shape = (&'static str, fn(usize) -> File);
 
 /// All shapes.
-pub const ALL: [Shape; 19] = [
+pub const ALL: [Shape; 20] = [
     ("balanced arithmetic", arithmetic),
     ("arithmetic nested left", arithmetic_left),
     ("arithmetic nested right", arithmetic_right),
@@ -27,6 +27,7 @@ pub const ALL: [Shape; 19] = [
     ("assigns in both branches", branches),
     ("expression statements", discards),
     ("decls in nested whiles", while_decls),
+    ("early returns in guards", guards),
 ];
 
 /// Wraps a statement so many times.
@@ -183,4 +184,18 @@ pub fn while_decls(nodes: usize) -> File {
     let all = (0..count)
         .fold(filler, |s, x| while_do(boolean(false), decl(x, INT, seq(assign(x, int(1)), s))));
     main(count as u8, seq(all, ret(int(0))))
+}
+
+/// Guards that return early or set a variable, which the next one reads; each of the first 63 sets one that has no value yet.
+pub fn guards(nodes: usize) -> File {
+    let vars = (1 + (nodes - 6) / 12).min(64) as u32;
+    let count = ((nodes - 5 - vars as usize) / 11) as u32;
+    let set = |i: u32| if i == 0 { 0 } else { 1 + (i - 1) % (vars - 1) };
+    let guard = |i: u32| {
+        let small = op(LT, var(0), int(i as i32));
+        if_else(small, ret(int(i as i32)), assign(set(i), op(ADD, var(set(i - 1)), int(1))))
+    };
+    let all = (1..=count).rev().fold(ret(var(set(count))), |s, i| seq(guard(i), s));
+    let all = seq(assign(0, int(count as i32)), all);
+    main(vars as u8, (0..vars).fold(all, |s, x| decl(x, INT, s)))
 }

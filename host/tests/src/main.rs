@@ -6,7 +6,7 @@ use tests::report::Outcome;
 use tests::{machine, scale, sides, worked, Side};
 
 /// The random files of a run of scale 1.
-const FILES: u64 = 240_000;
+const FILES: u64 = 250_000;
 
 /// The sum of all comparisons.
 #[derive(Default)]

@@ -6,7 +6,7 @@ use generators::rng::Rng;
 use generators::{aimed, noise, valid, File, Names};
 
 /// The kinds of random file.
-pub const KINDS: [&str; 24] = [
+pub const KINDS: [&str; 25] = [
     "valid files",
     "aimed at question 1",
     "aimed at question 2",
@@ -31,6 +31,7 @@ pub const KINDS: [&str; 24] = [
     "reads of any variable in scope",
     "any variables named",
     "reads of what some way assigned",
+    "reads after early returns",
 ];
 
 /// What came of some seeds: an outcome for each kind and side, and how often each answer came.
@@ -82,7 +83,8 @@ fn made(kind: usize, file: &File, rng: &mut Rng) -> Vec<u8> {
         20 => aimed::spoil_twice(file, rng),
         21 => valid::draw_loose(rng, Names::Scoped).bytes(),
         22 => valid::draw_loose(rng, Names::Any).bytes(),
-        _ => valid::draw_loose(rng, Names::Touched).bytes(),
+        23 => valid::draw_loose(rng, Names::Touched).bytes(),
+        _ => valid::draw_loose(rng, Names::Early).bytes(),
     }
 }
 
