@@ -7,7 +7,8 @@ use Frame::Stmt as W;
 use Ref::{IfOf, Node as N, Nop, SeqOf};
 use Value::{Bool, Int, Nothing as Empty};
 
-/// Node 6 is a while whose body, node 5, returns and then reads x0 at node 4; node 8 is `return 0`.
+/// Node 6 is a while whose body, node 5, returns and then reads x0 at node 4; node 8 is `return 0`,
+/// node 10 the decl of x0.
 pub fn f6() -> Function {
     let body = seq(ret(int(1)), discard(var(0)));
     function(INT, 1, decl(0, INT, seq(while_do(boolean(true), body), ret(int(0)))))
@@ -61,6 +62,11 @@ pub fn unfit() -> Vec<Named> {
         ("a branch that returns and one that does not", alone(V(Bool(true)), &none, &one)),
         ("a saved caller's read before its return", over_main(S(N(7)), &before, &[])),
         ("the callee's return alone", over_main(V(Empty), &before, &[Frame::Return])),
+        (
+            "a decl that returns, then a read of what is held",
+            called(6, S(N(10)), &[Int(5)], &later),
+        ),
+        ("a decl that returns, then a read", called(6, S(N(10)), &[Empty], &later)),
         ("a read after a while that returns", called(6, S(N(6)), &[Empty], &later)),
         ("a read after that while's if", called(6, S(IfOf(6)), &[Empty], &later)),
     ]
