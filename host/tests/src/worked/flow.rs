@@ -75,6 +75,8 @@ fn returns(g: &mut Group) {
     g.accepted("if, both return", then_read(branch(early(), early())));
     g.refused("if, the other side does nothing", then_read(branch(early(), nop())), 13, 7);
     g.refused("if, the first does nothing", then_read(branch(nop(), early())), 13, 7);
+    let first = branch(seq(early(), discard(var(0))), nop());
+    g.refused("a read after the return, then one after the if", then_read(first), 13, 10);
     let own = branch(ret(var(0)), set());
     g.refused("a return's own expression", then_read(own), 13, 3);
     let own = main(1, decl(0, INT, seq(ret(var(0)), ret(var(0)))));
