@@ -45,7 +45,7 @@ function-named s R p g w =
     record { function = w .function; fails = w .fails .1; located = rw e (function-located s g (w .function) (w .known)) }
 
 -- a read without a value is a node of its function
-reads-inside : (s : List ℕ) → Laid s → (f : ℕ) → f < functions s → Finds s f 8 ≡ Nothing → (i : ℕ) → LacksIn s f i → i < countOf s f
+pub reads-inside : (s : List ℕ) → Laid s → (f : ℕ) → f < functions s → Finds s f 8 ≡ Nothing → (i : ℕ) → LacksIn s f i → i < countOf s f
 unfolding answers
 reads-inside s g f l e i w =
     let n = countOf s f in

@@ -53,11 +53,15 @@ module _ (t : List ℕ) (k : ℕ) where
       go (expr e) w rec = empty-kind e d w
       go stray w rec = absurd w
 
+-- a node that reads a variable without a value is of kind 2
+pub lacks-variable : (s : List ℕ) (f i : ℕ) → LacksIn s f i → kindAt (partOf s f) i ≡ 2
+unfolding statementAt
+lacks-variable s f i w = lacks-kind (partOf s f) i _ _ _ w
+
 -- the place of a refusal by question 13 is located as a node of kind 2
 module _ (s : List ℕ) (p x : ℕ) (e : checkOf s ≡ refused 13 p x) where
   abbrev named : NodeNamed s (LacksIn s) p
   named = names-13 s p x e
 
   pub names-variable : placeOf s p ≡ Node (named .function) (named .node) 2
-  unfolding statementAt
-  names-variable = named .located ∙ rw (lacks-kind (partOf s (named .function)) (named .node) _ _ _ (named .fails))
+  names-variable = named .located ∙ rw (lacks-variable s (named .function) (named .node) (named .fails))

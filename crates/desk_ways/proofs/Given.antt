@@ -1,6 +1,6 @@
 -- What a statement leaves is what it found and what it gives by itself, but for the variables that it declares.
 use mathlib.Core.Path.{_≡_, refl, _∙_}
-use mathlib.Core.Bool.{Bool, true, false, not, _&&_, _||_}
+use mathlib.Core.Bool.{Bool, true, false, _&&_, _||_}
 use Prim.Native.Nat.{ℕ}
 use lib.Dec.{eqb}
 use Rattle.varset.specs.Sets.{Set, none, with, without, both, either, less, below}
@@ -50,3 +50,7 @@ leaves-from (Return e) d x h = found (d x) refl
     found false q = rw q
 leaves-from (Assert e) d x h = or-none (d x)
 leaves-from (Expr e) d x h = or-none (d x)
+
+-- a variable without a value before a statement that gives it none has none after it
+pub still-missing : (s : Statement) (d : Set) (x : ℕ) → declares s x ≡ false → d x ≡ false → leaves s none x ≡ false → leaves s d x ≡ false
+still-missing s d x h p q = leaves-from s d x h ∙ rw (p, q)

@@ -68,18 +68,18 @@ abbrev pub Even : List ℕ → ℕ → ℕ → ℕ → ℕ → ℕ → Type 0
 Even t n x i k m = (j : ℕ) → k ≤ j → j < m → onWay t n x i j ≡ true → gapAt t x j ≡ Straight
 
 -- node k is the last of m nodes that can
-pub record Last (t : List ℕ) (n x i m k : ℕ) (w : Way) : Type 0 where
+pub record NearestGap (t : List ℕ) (n x i m k : ℕ) (w : Way) : Type 0 where
   pub below : k < m
   pub on : onWay t n x i k ≡ true
   pub gap : gapAt t x k ≡ w
   pub later : Even t n x i (suc k) m
 
-abbrev pub LastOf : List ℕ → ℕ → ℕ → ℕ → ℕ → Way → Type 0
-LastOf t n x i m Straight = Even t n x i 0 m
-LastOf t n x i m (First k) = Last t n x i m k (First k)
-LastOf t n x i m (Second k) = Last t n x i m k (Second k)
-LastOf t n x i m (Loop k) = Last t n x i m k (Loop k)
-LastOf t n x i m Unknown = ⊥
+abbrev pub Nearest : List ℕ → ℕ → ℕ → ℕ → ℕ → Way → Type 0
+Nearest t n x i m Straight = Even t n x i 0 m
+Nearest t n x i m (First k) = NearestGap t n x i m k (First k)
+Nearest t n x i m (Second k) = NearestGap t n x i m k (Second k)
+Nearest t n x i m (Loop k) = NearestGap t n x i m k (Loop k)
+Nearest t n x i m Unknown = ⊥
 
 module _ (t : List ℕ) (n x i : ℕ) where
   even-more : (k m : ℕ) → Even t n x i k m → (onWay t n x i m ≡ true → gapAt t x m ≡ Straight) → Even t n x i k (suc m)
@@ -90,7 +90,7 @@ module _ (t : List ℕ) (n x i : ℕ) where
       go (no b) = let z : j ≡ m = omega arith in rw z (h (rw z at o))
 
   -- one node more that cannot
-  more : (m : ℕ) (w : Way) → (onWay t n x i m ≡ true → gapAt t x m ≡ Straight) → LastOf t n x i m w → LastOf t n x i (suc m) w
+  more : (m : ℕ) (w : Way) → (onWay t n x i m ≡ true → gapAt t x m ≡ Straight) → Nearest t n x i m w → Nearest t n x i (suc m) w
   more m Straight h r = even-more 0 m r h
   more m (First k) h r = record { below = omega (arith, r .below); on = r .on; gap = r .gap; later = even-more (suc k) m (r .later) h }
   more m (Second k) h r = record { below = omega (arith, r .below); on = r .on; gap = r .gap; later = even-more (suc k) m (r .later) h }
@@ -98,11 +98,11 @@ module _ (t : List ℕ) (n x i : ℕ) where
   more m Unknown h r = r
 
   -- and one that can
-  here : (m k : ℕ) (w : Way) → k ≡ m → onWay t n x i m ≡ true → gapAt t x m ≡ w → Last t n x i (suc m) k w
+  here : (m k : ℕ) (w : Way) → k ≡ m → onWay t n x i m ≡ true → gapAt t x m ≡ w → NearestGap t n x i (suc m) k w
   here m k w z o q = record { below = omega arith; on = rw z o; gap = rw z q; later = λ j a b. absurd (omega arith) }
 
   -- the way found among m nodes is that of the last of them that can pass so
-  pub last-is : (m : ℕ) → LastOf t n x i m (lastGap t n x i m)
+  pub last-is : (m : ℕ) → Nearest t n x i m (lastGap t n x i m)
   unfolding lastGap orEarlier
   last-is zero = λ j a b. absurd (not-suc-le-zero b)
   last-is (suc m) = go (onWay t n x i m) refl (gapAt t x m) refl (gap-says t x m) (last-is m)
@@ -110,7 +110,7 @@ module _ (t : List ℕ) (n x i : ℕ) where
       w : Way
       w = lastGap t n x i m
 
-      go : (b : Bool) → onWay t n x i m ≡ b → (g : Way) → gapAt t x m ≡ g → Says t x m g → LastOf t n x i m w → LastOf t n x i (suc m) (orEarlier (pick b g Straight) w)
+      go : (b : Bool) → onWay t n x i m ≡ b → (g : Way) → gapAt t x m ≡ g → Says t x m g → Nearest t n x i m w → Nearest t n x i (suc m) (orEarlier (pick b g Straight) w)
       go false e g q s r = more m w (λ o. clash _ o e) r
       go true e Straight q s r = more m w (λ o. q) r
       go true e (First j) q s r = here m j (First j) (s .0) e q
@@ -121,7 +121,7 @@ module _ (t : List ℕ) (n x i : ℕ) where
   pub named-below : (w : Way) → w ≡ lastGap t n x i i → namedNode w ≤ i
   named-below w e = go w (rw (← e) at (last-is i))
     where
-      go : (v : Way) → LastOf t n x i i v → namedNode v ≤ i
+      go : (v : Way) → Nearest t n x i i v → namedNode v ≤ i
       go Straight r = zero-le
       go (First k) r = omega (arith, r .below)
       go (Second k) r = omega (arith, r .below)

@@ -4,3 +4,5 @@ pub mod Gaps
 pub mod LastGaps
 pub mod Named
 pub mod Given
+pub mod Refusals
+pub mod Samples

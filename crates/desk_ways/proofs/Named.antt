@@ -12,7 +12,7 @@ use Rattle.spec_language.proofs.Rules.{leaves-while}
 use Rattle.desk_ways.specs.Ways.{onWay, gives, wayTo}
 use Rattle.desk_ways.specs.declared.Way.{Way}
 use Rattle.desk_ways.specs.declared.Way.the-variants.{Straight, First, Second, Loop}
-use Rattle.desk_ways.proofs.LastGaps.{Says, Last, LastOf, gap-says, even-if, even-while, last-is}
+use Rattle.desk_ways.proofs.LastGaps.{Says, NearestGap, Nearest, gap-says, even-if, even-while, last-is}
 
 -- a while that makes no turn gives no value
 no-turn : (t : List ℕ) (k x : ℕ) → 0 < k → kindAt t k ≡ 11 → leaves (statementAt t k) none x ≡ false
@@ -28,11 +28,11 @@ while-gives-none t zero x e = first-node t x
 while-gives-none t (suc k) x e = no-turn t (suc k) x (zero-lt-suc k) e
 
 module _ (t : List ℕ) (n i : ℕ) where
-  found : (w : Way) → wayTo t n i ≡ w → LastOf t n (bAt t i) i i w
+  found : (w : Way) → wayTo t n i ≡ w → Nearest t n (bAt t i) i i w
   unfolding wayTo
   found w e = rw e at (last-is t n (bAt t i) i i)
 
-  said : (k : ℕ) (w : Way) → Last t n (bAt t i) i i k w → Says t (bAt t i) k w
+  said : (k : ℕ) (w : Way) → NearestGap t n (bAt t i) i i k w → Says t (bAt t i) k w
   said k w l = rw (l .gap) at (gap-says t (bAt t i) k)
 
   -- the first branch of the if named leaves the variable without a value, and the second does not

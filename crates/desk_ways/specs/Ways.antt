@@ -16,8 +16,8 @@ use Rattle.desk_ways.specs.declared.Way.{Way}
 use Rattle.desk_ways.specs.declared.Way.the-variants.{Straight, First, Second, Loop, Unknown}
 
 -- node i of n nodes reads a variable, and the nodes are as questions 4, 7 and 8 want them
-abbrev pub Reads : List ℕ → ℕ → ℕ → Type 0
-Reads t n i = Known t n × (i < n) × (kindAt t i ≡ 2)
+abbrev pub KnownRead : List ℕ → ℕ → ℕ → Type 0
+KnownRead t n i = Known t n × (i < n) × (kindAt t i ≡ 2)
 
 -- the node that a way names, 0 where it names none
 abbrev pub namedNode : Way → ℕ

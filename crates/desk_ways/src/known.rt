@@ -1,4 +1,5 @@
 // Whether the nodes of a part are as questions 4, 7 and 8 want them.
+use records::format::MOST_PARAMETERS;
 use records::nodes::a_at;
 use records::nodes::arity_at;
 use records::nodes::b_at;
@@ -28,7 +29,7 @@ fn is_known(part: &[u8], i: usize) -> bool
     ((arity_at(part, i) == 0) | (0 < i))
         & ((size_at(part, i) <= i + 1)
             & ((!names_variable(kind) | (b_at(part, i) < 64))
-                & ((kind != 5) | (a_at(part, i) <= 8))))
+                & ((kind != 5) | (a_at(part, i) <= MOST_PARAMETERS))))
 }
 
 // Whether each of n nodes is.

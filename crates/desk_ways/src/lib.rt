@@ -2,21 +2,20 @@
 mod known;
 
 use check_scopes::is_under;
-use records::format::VARIABLE_ENTRIES;
 use records::minus;
 use records::nodes::b_at;
 use records::nodes::kind_at;
 use records::nodes::prior;
 use varset::VarSet;
 ghost use mathlib.Core.Path.{_≡_};
-ghost use Prim.Native.Nat.{_+_, _*_, _-_, _≤_, _<_};
+ghost use Prim.Native.Nat.{_+_, _*_, _≤_, _<_};
 ghost use lib.ListN.{length};
 ghost use Rattle.records.specs.Format.{mostVariables};
 ghost use Rattle.varset.specs.Lowest.{pick};
 ghost use Rattle.spec_language.specs.Nodes.{some};
 ghost use Rattle.spec_language.specs.Scopes.{declOf};
 ghost use Rattle.spec_language.specs.Known.{Known};
-ghost use Rattle.desk_ways.specs.Ways.{Reads, namedNode, inTree, apart, onWay, gives, uneven, gapAt, orEarlier, lastGap, wayTo};
+ghost use Rattle.desk_ways.specs.Ways.{KnownRead, namedNode, inTree, apart, onWay, gives, uneven, gapAt, orEarlier, lastGap, wayTo};
 
 // How a read is reached without a value: by the branch of an if that gives none, past a while that makes no turn, or with nothing before it that gives one.
 pub enum Way {
@@ -174,8 +173,8 @@ fn last_gap(part: &[u8], n: usize, x: u32, i: usize) -> Way
 // The way on which node i of n nodes reads its variable without a value, for nodes that the questions up to 8 accept.
 pub fn way_to(part: &[u8], n: usize, i: usize) -> Way
     requires { ⌜ 12 * n ≤ length (now part) ⌝ }
-    ensures told { λ r. ⌜ (Reads (now (part .entry)) n i → r ≡ wayTo (now (part .entry)) n i) ⌝ }
-    ensures silent { λ r. ⌜ ((Reads (now (part .entry)) n i → ⊥) → r ≡ Way.Unknown) ⌝ }
+    ensures told { λ r. ⌜ (KnownRead (now (part .entry)) n i → r ≡ wayTo (now (part .entry)) n i) ⌝ }
+    ensures silent { λ r. ⌜ ((KnownRead (now (part .entry)) n i → ⊥) → r ≡ Way.Unknown) ⌝ }
     ensures below { λ r. ⌜ namedNode r ≤ i ⌝ }
 {
     if n <= i {

@@ -1,7 +1,7 @@
 use mathlib.Core.Path.{sym, _∙_}
+use borrow.Author.Needs.{needs}
 use Rattle.spec_language.specs.Statements.{prior, last}
 use Rattle.desk_ways.proofs.Gaps.{gap-if, gap-while, no-gap-while, gap-none}
-use borrow.Author.Needs.{needs}
 use Rattle.desk_ways.proofs.gap_at.Statement.{statement}
 use Rattle.desk_ways.proofs.gap_at.Tie as tie
 

@@ -1,7 +1,7 @@
 use mathlib.Core.Path.{sym, _∙_}
 use borrow.Author.Tests.{not-true, not-false}
-use Rattle.desk_ways.proofs.Gaps.{off-decl, off-way, on-way}
 use borrow.Author.Needs.{needs}
+use Rattle.desk_ways.proofs.Gaps.{off-decl, off-way, on-way}
 use Rattle.desk_ways.proofs.gap_on_way.Statement.{statement}
 use Rattle.desk_ways.proofs.gap_on_way.Tie as tie
 

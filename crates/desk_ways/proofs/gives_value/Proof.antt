@@ -1,5 +1,5 @@
-use Rattle.desk_ways.specs.Ways.{gives}
 use borrow.Author.Needs.{needs}
+use Rattle.desk_ways.specs.Ways.{gives}
 use Rattle.desk_ways.proofs.gives_value.Statement.{statement}
 use Rattle.desk_ways.proofs.gives_value.Tie as tie
 

@@ -1,5 +1,5 @@
-use Rattle.desk_ways.specs.Ways.{inTree}
 use borrow.Author.Needs.{needs}
+use Rattle.desk_ways.specs.Ways.{inTree}
 use Rattle.desk_ways.proofs.in_tree.Statement.{statement}
 use Rattle.desk_ways.proofs.in_tree.Tie as tie
 

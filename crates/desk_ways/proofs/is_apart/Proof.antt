@@ -1,7 +1,7 @@
 use borrow.Author.Tests.{eq-eqb, ne-eqb}
+use borrow.Author.Needs.{needs}
 use Rattle.spec_language.specs.Statements.{prior, last}
 use Rattle.desk_ways.specs.Ways.{apart}
-use borrow.Author.Needs.{needs}
 use Rattle.desk_ways.proofs.is_apart.Statement.{statement}
 use Rattle.desk_ways.proofs.is_apart.Tie as tie
 

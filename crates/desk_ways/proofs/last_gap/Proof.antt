@@ -1,8 +1,8 @@
-use Rattle.check_scopes.proofs.Decls.{decl-fits}
 use mathlib.Core.Path.{_≡_, refl}
 use Prim.Native.Nat.{_-_, _≤_}
 use native.Mathlib.Omega.{arith}
 use borrow.Author.Needs.{needs}
+use Rattle.check_scopes.proofs.Decls.{decl-fits}
 use Rattle.desk_ways.specs.Ways.{lastGap}
 use Rattle.desk_ways.proofs.Gaps.{gap-next, gap-none-yet}
 use Rattle.desk_ways.proofs.last_gap.Statement.{statement}

@@ -1,5 +1,5 @@
-use Rattle.desk_ways.specs.Ways.{orEarlier}
 use borrow.Author.Needs.{needs}
+use Rattle.desk_ways.specs.Ways.{orEarlier}
 use Rattle.desk_ways.proofs.or_earlier.Statement.{statement}
 use Rattle.desk_ways.proofs.or_earlier.Tie as tie
 

@@ -1,14 +1,14 @@
+use mathlib.Core.Path.{refl, sym, _∙_}
 use Prim.Native.Nat.{zero-le}
-use Rattle.desk_ways.proofs.LastGaps.{named-below}
+use native.Mathlib.Omega.{arith}
+use borrow.Author.Tests.{not-true, not-false}
+use borrow.Author.Needs.{needs}
+use Rattle.records.proofs.Bools.{clash}
 use Rattle.spec_language.specs.Scopes.{usesVariable}
 use Rattle.spec_language.specs.Known.{namesVariable}
 use Rattle.spec_language.proofs.KnownNodes.{named}
 use Rattle.desk_ways.specs.Ways.{wayTo}
-use mathlib.Core.Path.{_≡_, refl, sym, _∙_}
-use native.Mathlib.Omega.{arith}
-use Rattle.records.proofs.Bools.{clash}
-use borrow.Author.Tests.{not-true, not-false}
-use borrow.Author.Needs.{needs}
+use Rattle.desk_ways.proofs.LastGaps.{named-below}
 use Rattle.desk_ways.proofs.way_to.Statement.{statement}
 use Rattle.desk_ways.proofs.way_to.Tie as tie
 
@@ -40,9 +40,13 @@ last-gap-requires c κs =
 returns-4 : tie.Need-returns-4
 unfolding wayTo
 returns-4 c =
-    let known = c .before .before .before .are-known .ensures .0 (not-false _ (c .before .before .if3 .left)) in
-    let reads = sym (c .before .before .before .before .before .kind-at .ensures) ∙ c .before .before .before .before .if2 .left in
-    (λ h. c .last-gap .ensures ∙ rw (c .before .b-at .ensures), (λ h. absurd (h (known, omega arith, reads)), named-below _ _ _ _ _ (c .last-gap .ensures)))
+    let known = c .before .before .before .are-known .ensures .0 (not-false _ (c .before .before .if3 .left)) in (
+      λ h. rw (← c .before .b-at .ensures) (c .last-gap .ensures),
+      (
+        λ h. absurd (h (known, omega arith, rw (← c .before .before .before .before .before .kind-at .ensures) (c .before .before .before .before .if2 .left))),
+        named-below _ _ _ _ _ (c .last-gap .ensures),
+      ),
+    )
 
 pub way-to-spec : {M : Type 1} → statement M
 way-to-spec =

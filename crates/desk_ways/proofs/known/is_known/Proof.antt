@@ -1,5 +1,5 @@
-use Rattle.desk_ways.specs.KnownNode.{knownNode}
 use borrow.Author.Needs.{needs}
+use Rattle.desk_ways.specs.KnownNode.{knownNode}
 use Rattle.desk_ways.proofs.known.is_known.Statement.{statement}
 use Rattle.desk_ways.proofs.known.is_known.Tie as tie
 
