@@ -2,7 +2,7 @@
 use mathlib.Core.Path.{_≡_, refl}
 use mathlib.Core.List.{List, [], _∷_, _++_, map}
 use Prim.Native.Nat.{ℕ}
-use Rattle.varset.specs.Sets.{none, with, without, both, less}
+use Rattle.varset.specs.Sets.{none, with, without, both, either, less, below}
 use Rattle.records.specs.Bytes.{u16At, u32At}
 use Rattle.records.specs.Fields.{kindAt, bAt, sizeAt}
 use Rattle.records.specs.Build.{node}
@@ -50,10 +50,16 @@ rows =
     ∷
     -- if (true) x0 = 1; else nop; while (true) x0 = 1; return x0
     row (node 1 0 1 1 ++ assign ++ node 6 0 0 1 ++ node 10 0 0 5 ++ node 1 0 1 1 ++ assign ++ node 11 0 0 4 ++ node 7 0 0 10 ++ node 2 0 0 1 ++ node 12 0 0 2 ++ node 7 0 0 13 ++ node 9 1 0 14) 14 10 (Loop 8)
+    ∷
+    -- if (true) return 1; else nop; return x0
+    row (node 1 0 1 1 ++ node 0 0 1 1 ++ node 12 0 0 2 ++ node 6 0 0 1 ++ node 10 0 0 5 ++ node 2 0 0 1 ++ node 12 0 0 2 ++ node 7 0 0 8 ++ node 9 1 0 9) 9 5 (Second 4)
+    ∷
+    -- while (true) return 1; return x0
+    row (node 1 0 1 1 ++ node 0 0 1 1 ++ node 12 0 0 2 ++ node 11 0 0 4 ++ node 2 0 0 1 ++ node 12 0 0 2 ++ node 7 0 0 7 ++ node 9 1 0 8) 8 4 (Loop 3)
     ∷ []
 
 right : map wayOf rows ≡ map answerOf rows
-unfolding none with without both less u16At u32At kindAt bAt sizeAt prior last shapes shapeAt readsFrom readsOf grow statementIn statementAt declares leaves declaresAt declOf under some inTree apart onWay gives uneven gapAt orEarlier lastGap wayTo
+unfolding none with without both either less below u16At u32At kindAt bAt sizeAt prior last shapes shapeAt readsFrom readsOf grow statementIn statementAt declares leaves declaresAt declOf under some inTree apart onWay gives uneven gapAt orEarlier lastGap wayTo
 right = refl
 
 -- if (true) if (true) x0 = 1; else nop; else assert(x0 < 1): the read is in one branch and the inner if in the other
