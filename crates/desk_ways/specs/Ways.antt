@@ -50,13 +50,13 @@ uneven true false k = Second k
 uneven false true k = First k
 uneven false false k = Straight
 
--- the way past node k that gives x no value where another way gives one: a branch of an if, or no turn of a while; by kind
+-- the gap at node k: the way past it that gives x no value where another way gives one, a branch of an if or no turn of a while; by kind
 unfoldable pub gapAt : List ℕ → ℕ → ℕ → Way
 gapAt t x k =
     pick (eqb (kindAt t k) 10) (uneven (gives t x (prior t (last k))) (gives t x (last k)) k)
     (pick (eqb (kindAt t k) 11 && gives t x (last k)) (Loop k) Straight)
 
--- the first of two where it names a node, else the second
+-- the first of two ways where it names a node, else the second
 unfoldable pub orEarlier : Way → Way → Way
 orEarlier Straight early = early
 orEarlier (First k) early = First k
@@ -64,11 +64,11 @@ orEarlier (Second k) early = Second k
 orEarlier (Loop k) early = Loop k
 orEarlier Unknown early = Unknown
 
--- the last such way of m nodes that stand on the way to node i
+-- the gap at the last of m nodes that has one and stands on the way to node i
 unfoldable pub lastGap : List ℕ → ℕ → ℕ → ℕ → ℕ → Way
 lastGap t n x i zero = Straight
 lastGap t n x i (suc k) = orEarlier (pick (onWay t n x i k) (gapAt t x k) Straight) (lastGap t n x i k)
 
--- the last such way before node i, for the variable that it reads
+-- the way on which node i reads its variable without a value: the last gap before it
 unfoldable pub wayTo : List ℕ → ℕ → ℕ → Way
 wayTo t n i = lastGap t n (bAt t i) i i

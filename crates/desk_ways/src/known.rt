@@ -20,7 +20,7 @@ fn names_variable(kind: u8) -> bool
     (kind == 2) | (kind == 8) | (kind == 9)
 }
 
-// Whether node i is as those questions want it.
+// Whether node i is as questions 4, 7 and 8 want it.
 fn is_known(part: &[u8], i: usize) -> bool
     requires { ⌜ 12 * i + 12 ≤ length (now part) ⌝ }
     ensures { λ r. ⌜ r ≡ knownNode (now (part .entry)) i ⌝ }
@@ -32,7 +32,7 @@ fn is_known(part: &[u8], i: usize) -> bool
                 & ((kind != 5) | (a_at(part, i) <= MOST_PARAMETERS))))
 }
 
-// Whether each of n nodes is.
+// Whether each of n nodes is as questions 4, 7 and 8 want it.
 pub fn are_known(part: &[u8], n: usize) -> bool
     requires { ⌜ 12 * n ≤ length (now part) ⌝ }
     ensures { λ r. ⌜ (r ≡ true ↔ Known (now (part .entry)) n) ⌝ }
