@@ -129,8 +129,10 @@ pub fn plain(code: u8, reads: VarSet, sets: VarSet) -> Effect
 pub fn of_expression(code: u8, reads: VarSet) -> Effect
     ensures { λ r. ⌜ (r .code ≡ code) × (r .reads ≡ reads) × (has (r .sets .0) ≡ pick (eqb code 4) (below mostVariables) none) ⌝ }
 {
+    let all = VarSet::full();
+    let none = VarSet::empty();
     if code == 4 {
-        return plain(code, reads, VarSet::full());
+        return plain(code, reads, all);
     }
-    plain(code, reads, VarSet::empty())
+    plain(code, reads, none)
 }

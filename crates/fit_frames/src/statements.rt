@@ -148,7 +148,8 @@ pub fn leave_step(file: &[u8], f: usize, d: Received) -> Next
     ensures { λ r. ⌜ Steps (programOf (now (file .entry))) f d Frame.leave r ⌝ }
 {
     let set = d.set;
-    let down = bare(set.union(VarSet::full()), true);
+    let all = set.union(VarSet::full());
+    let down = bare(all, true);
     Next {
         ok: d.some & (d.kind == result_of(file, f)),
         down,

@@ -143,7 +143,8 @@ fn statement_row(file: &[u8], f: usize, part: &[u8], n: usize, table: &[u64], i:
         }
         12 => {
             let needs = needs_at(table, i - 1);
-            crate::rows::plain(needs, VarSet::full(), true)
+            let all = VarSet::full();
+            crate::rows::plain(needs, all, true)
         }
         13 => {
             let needs = needs_at(table, i - 1);

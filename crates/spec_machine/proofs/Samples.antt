@@ -211,6 +211,9 @@ callers =
     -- a caller reads from its own variables
     fits (running (runs 3) emptyEnv 2 (int 5 ∷ []) [] (saved 0 half (right 0 18 ∷ leaving) ∷ [])) ∷
     unfit (running (runs 3) emptyEnv 2 (int 5 ∷ []) [] (saved 0 (nothing ∷ truth true ∷ []) (right 0 18 ∷ leaving) ∷ [])) ∷
+    -- what is under a caller's return(_) has every value, but for a decl's variable
+    fits (called 2 (runs 3) (int 5 ∷ []) [] (Frame.leave ∷ after 21 ∷ [])) ∷
+    unfit (running (runs 3) emptyEnv 2 (int 5 ∷ []) [] (saved 5 (nothing ∷ []) (Frame.leave ∷ after 8 ∷ after 6 ∷ []) ∷ saved 0 empty leaving ∷ [])) ∷
     []
 
 -- which variables have values, through control and frames
@@ -220,7 +223,6 @@ flow =
     fits (main-at (val (int 5)) empty (Frame.leave ∷ after 21 ∷ [])) ∷ fits (main-at (val (int 5)) half (Frame.leave ∷ after 21 ∷ [])) ∷
     fits (called 5 (val (int 6)) (nothing ∷ []) (Frame.leave ∷ after 6 ∷ []) leaving) ∷
     fits (called 5 (runs 11) (nothing ∷ []) (after 6 ∷ []) leaving) ∷ fits (called 5 (exec Ref.nop) (nothing ∷ []) (after 11 ∷ after 6 ∷ []) leaving) ∷
-    fits (called 2 (runs 3) (int 5 ∷ []) [] (Frame.leave ∷ after 21 ∷ [])) ∷
     -- in one branch, where the other assigns, and where it does not
     fits (main-at (val (truth true)) empty (branch (Ref.node 9) (Ref.node 1) ∷ after 21 ∷ [])) ∷
     unfit (main-at (val (truth true)) empty (branch (Ref.node 9) Ref.nop ∷ after 21 ∷ [])) ∷
@@ -229,7 +231,6 @@ flow =
     -- what is under return(_) is judged: a decl takes its variable away again, and so does a loop
     unfit (called 5 (val (int 6)) (nothing ∷ []) (Frame.leave ∷ after 8 ∷ after 6 ∷ []) leaving) ∷
     unfit (called 5 (val (int 6)) (int 5 ∷ []) (Frame.leave ∷ after 9 ∷ after 6 ∷ []) leaving) ∷
-    unfit (running (runs 3) emptyEnv 2 (int 5 ∷ []) [] (saved 5 (nothing ∷ []) (Frame.leave ∷ after 8 ∷ after 6 ∷ []) ∷ saved 0 empty leaving ∷ [])) ∷
     -- a decl takes its variable away after, and so does a loop
     unfit (called 5 (runs 8) (int 5 ∷ []) (after 6 ∷ after 11 ∷ []) leaving) ∷
     fits (called 5 (runs 7) (nothing ∷ []) (after 6 ∷ after 11 ∷ []) leaving) ∷
