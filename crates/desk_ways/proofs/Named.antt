@@ -32,34 +32,25 @@ module _ (t : List ℕ) (n i : ℕ) where
   unfolding wayTo
   found w e = rw e at (last-is t n (bAt t i) i i)
 
-  said : (k : ℕ) (w : Way) → NearestGap t n (bAt t i) i i k w → Says t (bAt t i) k w
-  said k w l = rw (l .gap) at (gap-says t (bAt t i) k)
+  said : {k : ℕ} {w : Way} → NearestGap t n (bAt t i) i i k w → Says t (bAt t i) k w
+  said {k} l = rw (l .gap) at (gap-says t (bAt t i) k)
 
   -- the first branch of the if named leaves the variable without a value, and the second does not
   pub first-named : (k : ℕ) → wayTo t n i ≡ First k
       → (k < i) × (kindAt t k ≡ 10) × (leaves (statementAt t (prior t (last k))) none (bAt t i) ≡ false) × (leaves (statementAt t (last k)) none (bAt t i) ≡ true)
   unfolding gives
-  first-named k e =
-      let l = found (First k) e in
-      let s = said k (First k) l in
-      (l .below, s .1, s .2, s .3)
+  first-named k e = let l = found (First k) e in (l .below, said l .1, said l .2, said l .3)
 
   pub second-named : (k : ℕ) → wayTo t n i ≡ Second k
       → (k < i) × (kindAt t k ≡ 10) × (leaves (statementAt t (prior t (last k))) none (bAt t i) ≡ true) × (leaves (statementAt t (last k)) none (bAt t i) ≡ false)
   unfolding gives
-  second-named k e =
-      let l = found (Second k) e in
-      let s = said k (Second k) l in
-      (l .below, s .1, s .2, s .3)
+  second-named k e = let l = found (Second k) e in (l .below, said l .1, said l .2, said l .3)
 
   -- the while named leaves the variable without a value, and its body does not
   pub loop-named : (k : ℕ) → wayTo t n i ≡ Loop k
       → (k < i) × (kindAt t k ≡ 11) × (leaves (statementAt t k) none (bAt t i) ≡ false) × (leaves (statementAt t (last k)) none (bAt t i) ≡ true)
   unfolding gives
-  loop-named k e =
-      let l = found (Loop k) e in
-      let s = said k (Loop k) l in
-      (l .below, s .1, while-gives-none t k (bAt t i) (s .1), s .2)
+  loop-named k e = let l = found (Loop k) e in (l .below, said l .1, while-gives-none t k (bAt t i) (said l .1), said l .2)
 
   -- where none is named, each if on the way gives a value in both branches or in neither, and no body of a while gives one
   pub straight-named : wayTo t n i ≡ Straight → (k : ℕ) → k < i → onWay t n (bAt t i) i k ≡ true

@@ -88,8 +88,7 @@ ends =
     fits (State.value 0) ∷ fits (State.value 4294967295) ∷ unfit (State.value 4294967296) ∷ fits (exception arith) ∷ fits (exception abort) ∷
     fits (main emptyEnv) ∷ fits (returned emptyEnv 4294967295) ∷ unfit (returned emptyEnv 4294967296) ∷
     -- a value or an expression over no frame
-    unfit (main-at (val (int 5)) empty []) ∷ unfit (main-at (val (truth true)) empty []) ∷ unfit (main-at (val nothing) empty []) ∷
-    unfit (main-at (eval 20) ready []) ∷
+    unfit (main-at (val (int 5)) empty []) ∷ unfit (main-at (val (truth true)) empty []) ∷ unfit (main-at (val nothing) empty []) ∷ unfit (main-at (eval 20) ready []) ∷
     []
 
 -- main alone stands over the empty caller, every activation has its own nodes, and what is held has its type
@@ -111,8 +110,7 @@ activations =
     -- nodes that the function does not have
     unfit (main-at (runs 28) empty []) ∷ unfit (main-at (eval 4294967295) empty leaving) ∷
     unfit (main-at (exec Ref.nop) empty (after 28 ∷ after 9 ∷ [])) ∷ unfit (main-at (val (int 5)) empty (right 0 28 ∷ leaving)) ∷
-    unfit (main-at (val (int 5)) ready (gather (fn 1) [] (28 ∷ []) ∷ discarding)) ∷
-    unfit (main-at (val (truth true)) empty (branch (Ref.node 9) (Ref.node 28) ∷ [])) ∷
+    unfit (main-at (val (int 5)) ready (gather (fn 1) [] (28 ∷ []) ∷ discarding)) ∷ unfit (main-at (val (truth true)) empty (branch (Ref.node 9) (Ref.node 28) ∷ [])) ∷
     -- any function may be called, and no other
     fits (called 1 (val (int 5)) blanks (gather (fn 2) [] [] ∷ Frame.discard ∷ after 7 ∷ []) discarding) ∷
     unfit (called 1 (val (int 5)) blanks (gather (fn 6) [] [] ∷ Frame.discard ∷ after 7 ∷ []) discarding) ∷
@@ -143,8 +141,7 @@ controls =
     unfit (main-at (val (truth true)) empty (branch (Ref.node 9) (Ref.node 10) ∷ after 9 ∷ [])) ∷
     -- the three forms of a while, and of no while
     fits (main-at (runs 13) ready (after 22 ∷ [])) ∷ fits (main-at (exec (ifOf 13)) ready (after 22 ∷ [])) ∷
-    fits (main-at (exec (seqOf 13)) ready (after 22 ∷ [])) ∷ unfit (main-at (exec (ifOf 12)) ready (after 22 ∷ [])) ∷
-    unfit (main-at (exec (seqOf 12)) ready (after 22 ∷ [])) ∷
+    fits (main-at (exec (seqOf 13)) ready (after 22 ∷ [])) ∷ unfit (main-at (exec (ifOf 12)) ready (after 22 ∷ [])) ∷ unfit (main-at (exec (seqOf 12)) ready (after 22 ∷ [])) ∷
     []
 
 -- each frame wants its values and gives its own
@@ -158,15 +155,12 @@ frames =
     fits (main-at (val (int 5)) empty (right 10 19 ∷ checking)) ∷ unfit (main-at (val (int 5)) empty (right 10 19 ∷ leaving)) ∷
     unfit (main-at (val (int 5)) empty (right 9 19 ∷ checking)) ∷
     -- c ⊙ _
-    fits (main-at (val (int 5)) empty (gather (op 1) (int 3 ∷ []) [] ∷ leaving)) ∷
-    unfit (main-at (val (truth true)) empty (gather (op 1) (int 3 ∷ []) [] ∷ leaving)) ∷
+    fits (main-at (val (int 5)) empty (gather (op 1) (int 3 ∷ []) [] ∷ leaving)) ∷ unfit (main-at (val (truth true)) empty (gather (op 1) (int 3 ∷ []) [] ∷ leaving)) ∷
     unfit (main-at (val (int 5)) empty (gather (op 16) (int 3 ∷ []) [] ∷ leaving)) ∷ unfit (main-at (val (int 5)) empty (gather (op 16) (int 3 ∷ []) [] ∷ checking)) ∷
     unfit (main-at (val (int 5)) empty (gather (op 1) (truth true ∷ []) [] ∷ leaving)) ∷
     -- _ && e
-    fits (main-at (val (truth true)) (nothing ∷ truth true ∷ []) (and 7 ∷ checking)) ∷
-    unfit (main-at (val (int 5)) (nothing ∷ truth true ∷ []) (and 7 ∷ checking)) ∷
-    unfit (main-at (val (truth true)) (nothing ∷ truth true ∷ []) (and 8 ∷ checking)) ∷
-    unfit (main-at (val (truth true)) (nothing ∷ truth true ∷ []) (and 7 ∷ leaving)) ∷
+    fits (main-at (val (truth true)) (nothing ∷ truth true ∷ []) (and 7 ∷ checking)) ∷ unfit (main-at (val (int 5)) (nothing ∷ truth true ∷ []) (and 7 ∷ checking)) ∷
+    unfit (main-at (val (truth true)) (nothing ∷ truth true ∷ []) (and 8 ∷ checking)) ∷ unfit (main-at (val (truth true)) (nothing ∷ truth true ∷ []) (and 7 ∷ leaving)) ∷
     -- a call, with as many as it takes and of their types
     fits (main-at (val (int 5)) (nothing ∷ truth true ∷ []) (gather (fn 1) [] (7 ∷ []) ∷ discarding)) ∷
     fits (main-at (val (truth true)) (nothing ∷ truth true ∷ []) (gather (fn 1) (int 5 ∷ []) [] ∷ discarding)) ∷
@@ -174,21 +168,18 @@ frames =
     unfit (main-at (val (int 5)) (nothing ∷ truth true ∷ []) (gather (fn 1) [] (7 ∷ 8 ∷ []) ∷ discarding)) ∷
     unfit (main-at (val (truth true)) (nothing ∷ truth true ∷ []) (gather (fn 1) [] (7 ∷ []) ∷ discarding)) ∷
     unfit (main-at (val (truth true)) (nothing ∷ truth true ∷ []) (gather (fn 1) (truth true ∷ []) [] ∷ discarding)) ∷
-    unfit (main-at (val (int 5)) (nothing ∷ truth true ∷ []) (gather (fn 1) [] (8 ∷ []) ∷ discarding)) ∷
-    unfit (main-at (val (int 5)) empty (gather (fn 4) [] [] ∷ leaving)) ∷
+    unfit (main-at (val (int 5)) (nothing ∷ truth true ∷ []) (gather (fn 1) [] (8 ∷ []) ∷ discarding)) ∷ unfit (main-at (val (int 5)) empty (gather (fn 4) [] [] ∷ leaving)) ∷
     unfit (main-at (val (truth true)) (nothing ∷ truth true ∷ []) (gather (fn 1) (int 5 ∷ []) [] ∷ leaving)) ∷
     -- assign(x, _)
     fits (main-at (val (int 5)) empty (Frame.store 0 ∷ after 9 ∷ [])) ∷ unfit (main-at (val (truth true)) empty (Frame.store 0 ∷ after 9 ∷ [])) ∷
     unfit (main-at (val nothing) empty (Frame.store 0 ∷ after 9 ∷ [])) ∷ unfit (main-at (val nothing) empty (Frame.store 2 ∷ after 9 ∷ [])) ∷
     -- if(_, s, t), the statements of different ifs
-    fits (main-at (val (truth true)) half (branch (Ref.node 9) (Ref.node 21) ∷ [])) ∷
-    unfit (main-at (val (int 1)) half (branch (Ref.node 9) (Ref.node 21) ∷ [])) ∷
+    fits (main-at (val (truth true)) half (branch (Ref.node 9) (Ref.node 21) ∷ [])) ∷ unfit (main-at (val (int 1)) half (branch (Ref.node 9) (Ref.node 21) ∷ [])) ∷
     -- return(_) and assert(_)
     unfit (main-at (val (truth true)) empty leaving) ∷ unfit (main-at (val nothing) empty leaving) ∷
     fits (main-at (val (truth true)) empty checking) ∷ unfit (main-at (val (int 5)) empty checking) ∷
     -- discard takes any value
-    fits (main-at (val (int 5)) empty discarding) ∷ fits (main-at (val (truth true)) empty discarding) ∷
-    fits (main-at (val nothing) empty discarding) ∷
+    fits (main-at (val (int 5)) empty discarding) ∷ fits (main-at (val (truth true)) empty discarding) ∷ fits (main-at (val nothing) empty discarding) ∷
     -- under a frame that gives none only statements wait
     unfit (main-at (val (int 5)) empty (Frame.store 0 ∷ leaving)) ∷ unfit (main-at (val (int 5)) empty (Frame.discard ∷ leaving)) ∷
     unfit (main-at (runs 9) empty leaving) ∷ fits (main-at (val (int 5)) empty (Frame.leave ∷ after 9 ∷ [])) ∷
@@ -202,8 +193,7 @@ frames =
 abbrev callers : List Row
 callers =
     unfit (called 2 (runs 3) (int 5 ∷ []) [] checking) ∷ fits (called 3 (runs 3) (int 5 ∷ []) [] checking) ∷
-    unfit (called 3 (runs 3) (int 5 ∷ []) [] leaving) ∷ unfit (called 1 (runs 7) blanks [] (Frame.store 0 ∷ after 9 ∷ [])) ∷
-    unfit (called 1 (runs 7) blanks [] (after 9 ∷ [])) ∷
+    unfit (called 3 (runs 3) (int 5 ∷ []) [] leaving) ∷ unfit (called 1 (runs 7) blanks [] (Frame.store 0 ∷ after 9 ∷ [])) ∷ unfit (called 1 (runs 7) blanks [] (after 9 ∷ [])) ∷
     -- a return of a function that gives nothing over such a callee
     fits (running (runs 7) emptyEnv 1 blanks [] (saved 1 blanks leaving ∷ saved 0 empty discarding ∷ [])) ∷
     -- a caller whose frames do not return
@@ -232,21 +222,16 @@ flow =
     unfit (called 5 (val (int 6)) (nothing ∷ []) (Frame.leave ∷ after 8 ∷ after 6 ∷ []) leaving) ∷
     unfit (called 5 (val (int 6)) (int 5 ∷ []) (Frame.leave ∷ after 9 ∷ after 6 ∷ []) leaving) ∷
     -- a decl takes its variable away after, and so does a loop
-    unfit (called 5 (runs 8) (int 5 ∷ []) (after 6 ∷ after 11 ∷ []) leaving) ∷
-    fits (called 5 (runs 7) (nothing ∷ []) (after 6 ∷ after 11 ∷ []) leaving) ∷
-    unfit (called 5 (runs 9) (int 5 ∷ []) (after 6 ∷ after 11 ∷ []) leaving) ∷
-    fits (called 5 (exec Ref.nop) (int 5 ∷ []) (after 6 ∷ after 11 ∷ []) leaving) ∷
+    unfit (called 5 (runs 8) (int 5 ∷ []) (after 6 ∷ after 11 ∷ []) leaving) ∷ fits (called 5 (runs 7) (nothing ∷ []) (after 6 ∷ after 11 ∷ []) leaving) ∷
+    unfit (called 5 (runs 9) (int 5 ∷ []) (after 6 ∷ after 11 ∷ []) leaving) ∷ fits (called 5 (exec Ref.nop) (int 5 ∷ []) (after 6 ∷ after 11 ∷ []) leaving) ∷
     -- operands that wait
     fits (main-at (val (int 5)) half (right 0 18 ∷ leaving)) ∷ unfit (main-at (val (int 5)) empty (right 0 18 ∷ leaving)) ∷
     unfit (main-at (val (truth true)) half (and 7 ∷ checking)) ∷ unfit (main-at (val (int 5)) half (gather (fn 1) [] (7 ∷ []) ∷ discarding)) ∷
     -- assign(x, _) adds x, and if(_, s, t) what both leave
-    fits (main-at (val (int 5)) empty (Frame.store 0 ∷ after 21 ∷ [])) ∷
-    fits (main-at (val (truth true)) empty (branch (Ref.node 1) (Ref.node 1) ∷ after 21 ∷ [])) ∷
-    unfit (main-at (val (truth true)) empty (branch (Ref.node 1) Ref.nop ∷ after 21 ∷ [])) ∷
-    unfit (main-at (val (truth true)) empty (branch (Ref.node 9) (Ref.node 21) ∷ [])) ∷
+    fits (main-at (val (int 5)) empty (Frame.store 0 ∷ after 21 ∷ [])) ∷ fits (main-at (val (truth true)) empty (branch (Ref.node 1) (Ref.node 1) ∷ after 21 ∷ [])) ∷
+    unfit (main-at (val (truth true)) empty (branch (Ref.node 1) Ref.nop ∷ after 21 ∷ [])) ∷ unfit (main-at (val (truth true)) empty (branch (Ref.node 9) (Ref.node 21) ∷ [])) ∷
     -- the if of a while reads as the while does, its seq goes through the body first
-    unfit (main-at (runs 13) half (after 22 ∷ [])) ∷ unfit (main-at (exec (ifOf 13)) half (after 22 ∷ [])) ∷
-    fits (main-at (exec (seqOf 13)) half (after 22 ∷ [])) ∷
+    unfit (main-at (runs 13) half (after 22 ∷ [])) ∷ unfit (main-at (exec (ifOf 13)) half (after 22 ∷ [])) ∷ fits (main-at (exec (seqOf 13)) half (after 22 ∷ [])) ∷
     -- a seq of a while may wait
     fits (main-at (exec Ref.nop) ready (wait (seqOf 13) ∷ after 9 ∷ [])) ∷
     []
@@ -255,8 +240,7 @@ flow =
 abbrev returning : List Row
 returning =
     fits (called 4 (exec (seqOf 10)) (nothing ∷ []) [] leaving) ∷ unfit (called 4 (exec (ifOf 10)) (nothing ∷ []) [] leaving) ∷
-    unfit (called 4 (runs 10) (nothing ∷ []) [] leaving) ∷
-    unfit (called 4 (val (truth true)) (nothing ∷ []) (branch (seqOf 10) Ref.nop ∷ []) leaving) ∷
+    unfit (called 4 (runs 10) (nothing ∷ []) [] leaving) ∷ unfit (called 4 (val (truth true)) (nothing ∷ []) (branch (seqOf 10) Ref.nop ∷ []) leaving) ∷
     fits (called 4 (val (truth true)) (nothing ∷ []) (branch (seqOf 10) (Ref.node 12) ∷ []) leaving) ∷
     -- it can only loop for ever
     unfit (called 4 (exec Ref.nop) (nothing ∷ []) (after 10 ∷ []) leaving) ∷
