@@ -5,18 +5,20 @@ use Prim.Native.Nat.{ℕ, suc, _+_, _*_, _-_, _≤_, _<_}
 use native.Mathlib.Nat.{add-zero}
 use native.Mathlib.Omega.{arith}
 use lib.ListN.{length, getD, set, take, drop, replicate, length-append, length-replicate, replicate-append-replicate}
-use Rattle.words.specs.Blocks.{puts}
+use Rattle.words.specs.Blocks.{puts, moved}
+use Rattle.words.proofs.Moves.{puts-next, puts-swap}
 use Rattle.spec_machine.specs.Values.{Value, nothing, Ty}
 use Rattle.spec_machine.specs.Program.{Operation}
 use Rattle.spec_machine.specs.Machine.{Frame, gather, Saved, saved, blank}
-use Rattle.spec_image.specs.Layout.{filled, valueWords, valuesWords, Activation, activation, activationWords}
+use Rattle.spec_image.specs.Layout.{filled, valueWords, valuesWords, nodesWords, Activation, activation, activationWords}
 use Rattle.spec_image.specs.Image.{savedActivations, savedFrames}
 use Rattle.spec_image.specs.Core.{core}
+use Rattle.spec_image.proofs.ValueWords.{length-values, length-nodes}
 use Rattle.spec_image.proofs.Images.{length-saved}
-use Rattle.spec_image.proofs.SlotWords.{values-one, blank-values}
-use Rattle.spec_image.proofs.Rooms.{rooms, filled-is, frame-pop, frame-part, frames-pop, activation-push, activation-pop, caller-word}
-use Rattle.spec_image.proofs.Frames.{core-rooms, pop-frame}
-use Rattle.spec_image.proofs.Operands.{gather-values}
+use Rattle.spec_image.proofs.SlotWords.{length-value, values-one, blank-values}
+use Rattle.spec_image.proofs.Rooms.{rooms, filled-is, frame-clear, frame-part, frames-pop, activation-push, activation-pop, caller-word}
+use Rattle.spec_image.proofs.Frames.{headKind, headWord, core-rooms, frame-words}
+use Rattle.spec_image.proofs.Operands.{gather-slots}
 use Rattle.spec_image.proofs.Variables.{activation-words, rooms-values, rooms-count}
 use Rattle.spec_image.proofs.Heads.{empty-rooms}
 
@@ -56,24 +58,52 @@ module _ (H R : List ℕ) (X : List Activation) (F : List Frame) (head : length 
       rw s (rooms-values H R X F head a count g 0 [] (replicate (length vs) nothing) vs (replicate l nothing) n m)
 
 module _ (H R : List ℕ) (X : List Activation) (F : List Frame) (head : length H ≡ 128) (a : ℕ) (count : a ≡ length X) where
-  -- its first variables get the values in the top frame and one at hand, and the frame is taken off
-  rooms-copied : (g : ℕ) (h : Operation) (vs : List Value) (v : Value) (c l w here s n at : ℕ) → a < 32 → c ≤ 64 → c ≡ length vs + suc l → length vs ≤ 7
-      → w ≡ length vs * 2 → here ≡ 128 + a * 136 → s ≡ here + (8 + length vs * 2) → n ≡ length F → at ≡ 4480 + n * 20 → n < 512
-      → let m = rooms H (activation g 0 (replicate c nothing) ∷ X) (gather h vs [] ∷ F) ++ R in
-      puts (puts (puts m (here + 8) 0 (take w (drop (at + 4) m))) s 0 (valueWords v)) at 0 (replicate 20 0)
-      ≡ rooms H (activation g 0 ((vs ++ (v ∷ [])) ++ replicate l nothing) ∷ X) F ++ R
-  rooms-copied g h vs v c l w here s n at room short hc hv hw new hs under top fewer =
-      let e : w ≡ 2 * length vs = omega arith in
-      let d : s ≡ 128 + a * 136 + (8 + 2 * length vs) = omega arith in
-      let j : length vs + length {A = ℕ} [] ≤ 7 = omega arith in
-      let y : suc (length X) ≤ 32 = omega arith in
-      let i : length (vs ++ ((nothing ∷ []) ++ replicate l nothing)) ≤ 64
-      = omega (arith, short, hc, length-append vs ((nothing ∷ []) ++ replicate l nothing), length-replicate l nothing) in
-      let p = frame-part H R (activation g 0 (replicate c nothing) ∷ X) F head y n under (gather h vs []) 4 (2 * length vs) (omega arith) ∙ gather-values h vs [] j in
-      let q = rooms-arguments H R X (gather h vs [] ∷ F) head a count g vs c (suc l) hc short in
-      let r = rooms-values H R X (gather h vs [] ∷ F) head a count g 0 vs (nothing ∷ []) (v ∷ []) (replicate l nothing) refl i in
-      rw (e, d, new, top, p, q, rw (values-one v) at r, append-assoc vs (v ∷ []) (replicate l nothing))
-      (frame-pop H R (activation g 0 (vs ++ ((v ∷ []) ++ replicate l nothing)) ∷ X) F head y n under (gather h vs []) fewer)
+  module _ (g : ℕ) (h : Operation) (vs : List Value) (c l q n : ℕ) (room : a < 32) (short : c ≤ 64) (known : c ≡ length vs + suc l) (few : length vs ≤ 7)
+      (all : length vs ≤ 2 * q) (most : 2 * q ≤ suc (length vs)) (under : n ≡ length F) where
+    -- its first variables get the values in the top frame, whose slots are read two at a time
+    rooms-copied : let m = rooms H (activation g 0 (replicate c nothing) ∷ X) (gather h vs [] ∷ F) ++ R in
+        puts m (128 + a * 136 + 8) 0 (take (q * 4) (drop (4480 + n * 20 + 4) m))
+        ≡ rooms H (activation g 0 (vs ++ ((nothing ∷ []) ++ replicate l nothing)) ∷ X) (gather h vs [] ∷ F) ++ R
+    rooms-copied =
+        let d : ℕ = 2 * q - length vs in
+        let us : List Value = vs ++ replicate d nothing in
+        let w : q * 4 ≡ 2 * (length vs + d) = omega arith in
+        let i : d + (suc l - d) ≡ suc l = omega arith in
+        let k : length us ≡ length vs + d = omega (arith, length-append vs (replicate {A = Value} d nothing), length-replicate {A = Value} d nothing) in
+        let p = frame-part H R (activation g 0 (replicate c nothing) ∷ X) F head (omega arith) n under (gather h vs []) 4 (2 * (length vs + d)) (omega arith)
+        ∙ gather-slots h vs d few (omega arith) in
+        let t : us ++ replicate (suc l - d) nothing ≡ vs ++ ((nothing ∷ []) ++ replicate l nothing)
+        = append-assoc vs (replicate d nothing) (replicate (suc l - d) nothing)
+        ∙ ap (λ (r : List Value). vs ++ r) (replicate-append-replicate d (suc l - d) nothing ∙ ap (λ (i : ℕ). replicate i nothing) i) in
+        rw (w, p, ← t) (rooms-arguments H R X (gather h vs [] ∷ F) head a count g us c (suc l - d) (omega arith) short)
+
+    -- one at hand follows them, and the frame is taken off by its first words, once its slots are cleared
+    rooms-moved : (v : Value) → n < 512 → let m = rooms H (activation g 0 (replicate c nothing) ∷ X) (gather h vs [] ∷ F) ++ R in
+        puts (puts (moved m (4480 + n * 20 + 4) (128 + a * 136 + 8) (q * 4)) (128 + a * 136 + (8 + 2 * length vs)) 0 (valueWords v))
+        (4480 + n * 20) 0 (0 ∷ 0 ∷ 0 ∷ 0 ∷ [])
+        ≡ rooms H (activation g 0 (vs ++ ((v ∷ []) ++ replicate l nothing)) ∷ X) F ++ R
+    rooms-moved v fewer =
+        let A : ℕ = 4480 + n * 20 in
+        let S : ℕ = 128 + a * 136 + (8 + 2 * length vs) in
+        let W : List ℕ = valueWords v in
+        let O : List ℕ = 0 ∷ 0 ∷ 0 ∷ 0 ∷ [] in
+        let Z : List ℕ = replicate (q * 4) 0 in
+        let F₁ : List Frame = gather h vs [] ∷ F in
+        let M = rooms H (activation g 0 (vs ++ ((nothing ∷ []) ++ replicate l nothing)) ∷ X) F₁ ++ R in
+        let N = rooms H (activation g 0 (vs ++ ((v ∷ []) ++ replicate l nothing)) ∷ X) F₁ ++ R in
+        let ws : List ℕ = headKind h ∷ headWord h ∷ length vs ∷ 0 ∷ valuesWords vs ++ nodesWords [] in
+        let i : length (vs ++ ((nothing ∷ []) ++ replicate l nothing)) ≤ 64
+        = omega (arith, short, known, length-append vs ((nothing ∷ []) ++ replicate l nothing), length-replicate l nothing) in
+        let u : length ws ≤ 4 + q * 4 = omega (arith, length-append (valuesWords vs) (nodesWords []), length-values vs, length-nodes []) in
+        let r : puts M S 0 W ≡ N
+        = rw (values-one v) at (rooms-values H R X F₁ head a count g 0 vs (nothing ∷ []) (v ∷ []) (replicate l nothing) refl i) in
+        ap (λ (t : List ℕ). puts (puts (puts t (A + 4) 0 Z) S 0 W) A 0 O) rooms-copied
+        ∙ ap (λ (t : List ℕ). puts t A 0 O) (puts-swap W Z M S (A + 4) (omega (arith, length-value v)) ∙ ap (λ (t : List ℕ). puts t (A + 4) 0 Z) r)
+        ∙ puts-swap O Z N A (A + 4) (omega arith)
+        ∙ puts-next O Z N A (A + 4) refl
+        ∙ ap (λ (t : List ℕ). puts N A 0 t) (replicate-append-replicate 4 (q * 4) 0)
+        ∙ frame-clear H R (activation g 0 (vs ++ ((v ∷ []) ++ replicate l nothing)) ∷ X) F head (omega arith) n under (gather h vs []) ws (4 + q * 4)
+        fewer u (omega arith) (frame-words (gather h vs []))
 
 -- ---- entered
 
@@ -97,36 +127,25 @@ module _ (f : ℕ) (η : List Value) (K : List Frame) (A : List Saved) (R : List
         rw (core-rooms f η K A, core-rooms g (replicate c nothing) [] (saved f η K ∷ A)) (entering (K ++ savedFrames A))
 
     module _ (n at : ℕ) (under : n ≡ length (K ++ savedFrames A)) (top : at ≡ 4480 + n * 20) (fewer : n < 512) where
-      -- with arguments at hand: the frame is taken off first
-      pub enter : (fr : Frame) (us : List Value) (l : ℕ) → c ≡ length us + l
-          → puts (puts (set (puts (core f η (fr ∷ K) A ++ R) at 0 (replicate 20 0)) b k) here 0 (g ∷ 0 ∷ c ∷ [])) (here + 8) 0 (valuesWords us)
-          ≡ core g (us ++ replicate l nothing) [] (saved f η K ∷ A) ++ R
-      unfolding savedActivations savedFrames
-      enter fr us l e =
-          rw (
-            pop-frame f η K A R n at (omega arith) under top fr fewer,
-            enter-none,
-            new,
-            core-rooms g (replicate c nothing) [] (saved f η K ∷ A),
-            core-rooms g (us ++ replicate l nothing) [] (saved f η K ∷ A),
-          )
-          (rooms-arguments (replicate 128 0) R (activation f (length K) η ∷ savedActivations A) (K ++ savedFrames A) (length-replicate {A = ℕ} 128 0) (a + 1)
-          (omega (arith, count, length-saved A)) g us c l e short)
-
-      -- with arguments copied from the frame, and the last one at hand: the frame is taken off last
-      pub enter-copy : (h : Operation) (vs : List Value) (v : Value) (l w s : ℕ) → c ≡ length vs + suc l → length vs ≤ 7 → w ≡ length vs * 2
+      -- with arguments moved from the frame, and the last one at hand
+      pub enter-moved : (h : Operation) (vs : List Value) (v : Value) (l q s : ℕ) → c ≡ length vs + suc l → length vs ≤ 7 → length vs ≤ 2 * q → 2 * q ≤ suc (length vs)
           → s ≡ here + (8 + length vs * 2) → let m = puts (set (core f η (gather h vs [] ∷ K) A ++ R) b k) here 0 (g ∷ 0 ∷ c ∷ []) in
-          puts (puts (puts m (here + 8) 0 (take w (drop (at + 4) m))) s 0 (valueWords v)) at 0 (replicate 20 0)
+          puts (puts (moved m (at + 4) (here + 8) (q * 4)) s 0 (valueWords v)) at 0 (0 ∷ 0 ∷ 0 ∷ 0 ∷ [])
           ≡ core g ((vs ++ (v ∷ [])) ++ replicate l nothing) [] (saved f η K ∷ A) ++ R
       unfolding savedActivations savedFrames
-      enter-copy h vs v l w s hc hv hw hs =
+      enter-moved h vs v l q s hc hv all most hs =
+          let e : s ≡ 128 + (a + 1) * 136 + (8 + 2 * length vs) = omega arith in
           rw (
             core-rooms f η (gather h vs [] ∷ K) A,
             entering (gather h vs [] ∷ (K ++ savedFrames A)),
             core-rooms g ((vs ++ (v ∷ [])) ++ replicate l nothing) [] (saved f η K ∷ A),
+            e,
+            new,
+            top,
+            append-assoc vs (v ∷ []) (replicate l nothing),
           )
-          (rooms-copied (replicate 128 0) R (activation f (length K) η ∷ savedActivations A) (K ++ savedFrames A) (length-replicate {A = ℕ} 128 0) (a + 1)
-          (omega (arith, count, length-saved A)) g h vs v c l w here s n at room short hc hv hw new hs under top fewer)
+          (rooms-moved (replicate 128 0) R (activation f (length K) η ∷ savedActivations A) (K ++ savedFrames A) (length-replicate {A = ℕ} 128 0) (a + 1)
+          (omega (arith, count, length-saved A)) g h vs c l q n room short hc hv all most under v fewer)
 
 -- the function that is called first, in words that are zeros
 pub enter-main : (R : List ℕ) (z at g c : ℕ) → z ≡ 16384 → at ≡ 128 → c ≤ 64

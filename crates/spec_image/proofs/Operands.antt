@@ -8,6 +8,7 @@ use lib.ListN.{length, getD, set, take, drop, replicate, length-append, length-r
 use lib.Seq.{take-at}
 use Rattle.words.specs.Blocks.{puts}
 use Rattle.words.proofs.Blocks.{puts-block, getD-block, set-block}
+use Rattle.words.proofs.Moves.{puts-from}
 use Rattle.spec_machine.specs.Values.{Value, nothing}
 use Rattle.spec_machine.specs.Program.{Operation}
 use Rattle.spec_machine.specs.Machine.{Frame, gather, Saved}
@@ -16,7 +17,7 @@ use Rattle.spec_image.specs.Image.{savedFrames}
 use Rattle.spec_image.specs.Decode.{valueOf}
 use Rattle.spec_image.specs.Core.{core}
 use Rattle.spec_image.proofs.ValueWords.{value-back, length-values, length-nodes}
-use Rattle.spec_image.proofs.SlotWords.{puts-from, length-value, values-append, values-one, values-at, nodes-at, nodes-set, blank-nodes}
+use Rattle.spec_image.proofs.SlotWords.{length-value, values-append, values-one, values-at, nodes-at, nodes-set, blank-values, blank-nodes}
 use Rattle.spec_image.proofs.Rooms.{filled-is}
 use Rattle.spec_image.proofs.Frames.{headKind, headWord, frame-words, push-frame, top-word, change-frame}
 
@@ -33,10 +34,21 @@ gather-words h vs ns q =
     let e : 20 - length l ≡ 16 - 2 * (length vs + length ns) = omega arith in
     frame-words (gather h vs ns) ∙ filled-is 20 l n ∙ rw (e, append-assoc (valuesWords vs) (nodesWords ns))
 
--- the words of its values
-pub gather-values : (h : Operation) (vs : List Value) (ns : List ℕ) → length vs + length ns ≤ 7
-    → take (2 * length vs) (drop 4 (frameWords (gather h vs ns))) ≡ valuesWords vs
-gather-values h vs ns q = rw (gather-words h vs ns q) (take-at (valuesWords vs) _ (2 * length vs) (length-values vs))
+-- the words of its values and of d slots after them, where no node waits
+pub gather-slots : (h : Operation) (vs : List Value) (d : ℕ) → length vs ≤ 7 → length vs + d ≤ 8
+    → take (2 * (length vs + d)) (drop 4 (frameWords (gather h vs []))) ≡ valuesWords (vs ++ replicate d nothing)
+unfolding nodesWords
+gather-slots h vs d short room =
+    let q : length vs + length {A = ℕ} [] ≤ 7 = omega arith in
+    let i : 16 - 2 * (length vs + length {A = ℕ} []) ≡ 2 * d + (16 - 2 * (length vs + d)) = omega arith in
+    let z : replicate {A = ℕ} (16 - 2 * (length vs + length {A = ℕ} [])) 0 ≡ replicate (2 * d) 0 ++ replicate (16 - 2 * (length vs + d)) 0
+    = rw i (sym (replicate-append-replicate (2 * d) (16 - 2 * (length vs + d)) 0)) in
+    let u : valuesWords (vs ++ replicate d nothing) ≡ valuesWords vs ++ replicate (2 * d) 0
+    = values-append vs (replicate d nothing) ∙ rw (blank-values d) in
+    let n : length (valuesWords vs ++ replicate {A = ℕ} (2 * d) 0) ≡ 2 * (length vs + d)
+    = omega (arith, length-append (valuesWords vs) (replicate {A = ℕ} (2 * d) 0), length-values vs, length-replicate {A = ℕ} (2 * d) 0) in
+    rw (gather-words h vs [] q, z, u, ← append-assoc (valuesWords vs) (replicate (2 * d) 0) (replicate {A = ℕ} (16 - 2 * (length vs + d)) 0))
+    (take-at (valuesWords vs ++ replicate (2 * d) 0) _ (2 * (length vs + d)) n)
 
 -- a word of value k
 value-word : (h : Operation) (vs : List Value) (ns : List ℕ) → length vs + length ns ≤ 7 → (k j : ℕ) → k < length vs → j < 2

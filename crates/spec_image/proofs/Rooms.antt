@@ -74,6 +74,21 @@ filling w p r at begins vs short =
     let n : 0 + length vs ≤ length (replicate {A = ℕ} w 0) = omega (arith, length-replicate {A = ℕ} w 0) in
     rw (← puts-zeros w vs short) (rw (add-zero at) at (inside p (replicate w 0) r at begins 0 vs n))
 
+-- a block becomes zeros where at least its words that are not zeros at the end are cleared
+clearing : (w : ℕ) (p r : List ℕ) (at : ℕ) → length p ≡ at → (vs : List ℕ) (k : ℕ) → length vs ≤ k → k ≤ w
+    → puts (p ++ (filled w vs ++ r)) at 0 (replicate k 0) ≡ p ++ (replicate w 0 ++ r)
+clearing w p r at begins vs k used short =
+    let q : List ℕ = vs ++ replicate (k - length vs) 0 in
+    let i : k - length vs + (w - k) ≡ w - length vs = omega arith in
+    let j : k + (w - k) ≡ w = omega arith in
+    let n : length q ≡ length (replicate {A = ℕ} k 0)
+    = omega (arith, length-append vs (replicate {A = ℕ} (k - length vs) 0), length-replicate {A = ℕ} (k - length vs) 0, length-replicate {A = ℕ} k 0) in
+    let e : filled w vs ++ r ≡ q ++ (replicate (w - k) 0 ++ r)
+    = rw (filled-is w vs (omega arith), ← i, ← replicate-append-replicate {A = ℕ} (k - length vs) (w - k) 0) (simp append-assoc) in
+    let z : replicate {A = ℕ} w 0 ++ r ≡ replicate k 0 ++ (replicate (w - k) 0 ++ r)
+    = rw (← append-assoc (replicate {A = ℕ} k 0) (replicate (w - k) 0) r, replicate-append-replicate {A = ℕ} k (w - k) 0, j) in
+    rw (e, z) (puts-block (replicate k 0) q p (replicate (w - k) 0 ++ r) at 0 (begins ∙ sym (add-zero at)) n)
+
 -- ---- the frames
 
 module _ (H R : List ℕ) (X : List Activation) (F : List Frame) where
@@ -142,6 +157,13 @@ module _ (H R : List ℕ) (X : List Activation) (F : List Frame) (head : length 
         rw (frame-free H R X F (omega arith), frame-held H R X F fr)
         (puts-block (replicate 20 0) (frameWords fr) (under H R X F) (over H R X F) (4480 + n * 20) 0
         (length-under n count ∙ sym (add-zero (4480 + n * 20))) (frame-wide fr ∙ sym (length-replicate {A = ℕ} 20 0)))
+
+    -- it is taken off by clearing at least its words that are not zeros at the end
+    pub frame-clear : (fr : Frame) (vs : List ℕ) (k : ℕ) → n < 512 → length vs ≤ k → k ≤ 20 → frameWords fr ≡ filled 20 vs
+        → puts (rooms H X (fr ∷ F) ++ R) (4480 + n * 20) 0 (replicate k 0) ≡ rooms H X F ++ R
+    frame-clear fr vs k room used short e =
+        rw (frame-free H R X F (omega arith), frame-held H R X F fr, e)
+        (clearing 20 (under H R X F) (over H R X F) (4480 + n * 20) (length-under n count) vs k used short)
 
     -- the frames over a stack are taken off
     pub frames-pop : (K : List Frame) → length K + n ≤ 512

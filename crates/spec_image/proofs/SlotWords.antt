@@ -2,20 +2,11 @@
 use mathlib.Core.Path.{_≡_, refl, sym, ap}
 use mathlib.Core.List.{List, [], _∷_, _++_, append-assoc}
 use Prim.Native.Nat.{ℕ, zero, suc, _+_, _*_, _<_}
-use native.Mathlib.Nat.{add-assoc}
 use native.Mathlib.Omega.{arith}
 use lib.ListN.{length, getD, set, replicate, List·getD-append}
 use lib.Seq.{getD-append-add}
-use Rattle.words.specs.Blocks.{puts}
 use Rattle.spec_machine.specs.Values.{Value, nothing, int, truth}
 use Rattle.spec_image.specs.Layout.{valueWords, valuesWords, nodesWords}
-
--- the words of a block from its word j on
-pub puts-from : (vs l : List ℕ) (at j k : ℕ) → puts l at (j + k) vs ≡ puts l (at + j) k vs
-puts-from [] l at j k = refl
-puts-from (v ∷ vs) l at j k =
-    let e : suc (j + k) ≡ j + suc k = omega arith in
-    rw (e, ← add-assoc at j k) (puts-from vs (set l (at + j + k) v) at j (suc k))
 
 pub length-value : (v : Value) → length (valueWords v) ≡ 2
 unfolding valueWords

@@ -61,7 +61,7 @@ pub fn caller_frames(m: &[u32], a: usize) -> u32
     state_words::activations::activation_word(m, a, 1)
 }
 
-// Enters function g of c variables with the y values of the top frame and one at hand; n frames lie under that frame.
+// Enters function g of c variables with the y values of the top frame, over n frames, and one at hand, each moved straight to its variable.
 pub fn enter(
     m: &mut [u32],
     n: usize,
@@ -76,12 +76,12 @@ pub fn enter(
     ensures { λ _. ⌜ ((f : ℕ) (η : List Value) (h : Operation) (vs : List Value) (l : ℕ) (K : List Frame) (A : List Saved) (R : List ℕ) → now (m .entry) ≡ core f η (gather h vs [] ∷ K) A ++ R → a ≡ length A → n ≡ length (K ++ savedFrames A) → k ≡ length K → y ≡ length vs → c ≤ variableRoom → c ≡ length vs + suc l → now (m .exit) ≡ core g ((vs ++ (valueIs v ∷ [])) ++ replicate l nothing) [] (saved f η K ∷ A) ++ R) ⌝ }
 {
     open(m, a, k, g, c);
-    words::copy_down(
+    words::move_down(
         m,
         FRAMES + n * FRAME_WORDS + SLOTS,
         ACTIVATIONS + (a + 1) * ACTIVATION_WORDS + VARIABLES,
-        y * 2,
+        (y + 1) / 2,
     );
     state_words::activations::put_variable(m, a + 1, y, v);
-    state_words::frames::drop_frames(m, n, 1)
+    state_words::frames::put_frame(m, n, 0, 0, 0, 0)
 }

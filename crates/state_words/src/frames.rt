@@ -26,11 +26,7 @@ pub fn put_frame(m: &mut [u32], n: usize, kind: u32, x: u32, y: u32, z: u32)
     requires { ⌜ (size ≤ length (now m)) × (n < frameRoom) ⌝ }
     ensures { λ _. ⌜ now (m .exit) ≡ puts (now (m .entry)) (frameAt n) 0 (kind ∷ x ∷ y ∷ z ∷ []) ⌝ }
 {
-    let at = FRAMES + n * FRAME_WORDS;
-    m[at + 0] = kind;
-    m[at + 1] = x;
-    m[at + 2] = y;
-    m[at + 3] = z;
+    words::put_four(m, FRAMES + n * FRAME_WORDS, kind, x, y, z)
 }
 
 // The words of k frames over n set to zero.

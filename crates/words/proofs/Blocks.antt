@@ -2,11 +2,10 @@
 use mathlib.Core.Path.{_≡_, refl, sym, ap, _∙_}
 use mathlib.Core.List.{List, [], _∷_, _++_}
 use Prim.Native.Nat.{ℕ, suc, _+_, _<_, _≤_}
-use native.Mathlib.Nat.{add-zero, add-suc, add-assoc, suc-add}
-use native.Mathlib.Numerals.{add-one}
+use native.Mathlib.Nat.{add-zero, add-assoc}
 use native.Mathlib.Omega.{arith}
 use lib.ListN.{take, drop, length, getD, set, replicate, length-append, length-replicate, length-set, length-drop, take-append-drop, List·getD-append}
-use lib.Seq.{append-snoc, set-at, set-append-left, take-at, drop-at, take-suc, drop-drop, length-take-le, getD-append-add, getD-set-other, getD-drop}
+use lib.Seq.{append-snoc, set-at, set-append-left, take-at, drop-at, drop-drop, length-take-le, getD-append-add, getD-set-other}
 use Rattle.words.specs.Blocks.{puts}
 
 -- a block q becomes vs
@@ -76,28 +75,12 @@ puts-inside (v ∷ vs) q p r at j k hp h =
     rw (add-assoc at j k, set-block p q r at (j + k) v hp (omega arith))
     (puts-inside vs (set q (j + k) v) p r at j (suc k) hp (simp length-set (omega arith)))
 
--- one more word stored
-puts-snoc : (vs l : List ℕ) (at k v : ℕ) → puts l at k (vs ++ (v ∷ [])) ≡ set (puts l at k vs) (at + (k + length vs)) v
-puts-snoc [] l at k v = rw (add-zero k)
-puts-snoc (u ∷ vs) l at k v = rw (add-suc k (length vs), ← suc-add k (length vs)) (puts-snoc vs (set l (at + k) u) at (suc k) v)
-
 -- a word that no store meets
 pub getD-puts : (vs l : List ℕ) (at k b : ℕ) → ((j : ℕ) → j < length vs → b ≡ at + (k + j) → ⊥) → getD (puts l at k vs) b 0 ≡ getD l b 0
 getD-puts [] l at k b h = refl
 getD-puts (v ∷ vs) l at k b h =
     getD-puts vs (set l (at + k) v) at (suc k) b (λ j hj e. h (suc j) (omega arith) (omega arith))
     ∙ getD-set-other l (at + k) b v 0 (λ e. h 0 (omega arith) (omega arith))
-
--- one more word copied to a place that is not above its own
-pub copy-more : (l s : List ℕ) (from to i : ℕ) → to ≤ from → from + i < length l → s ≡ puts l to 0 (take i (drop from l))
-    → set s (to + i) (getD s (from + i) 0) ≡ puts l to 0 (take (i + 1) (drop from l))
-copy-more l s from to i h k e =
-    let d : i < length (drop from l) = simp length-drop (omega arith) in
-    let n : length (take i (drop from l)) ≡ i = length-take-le i (drop from l) (omega arith) in
-    let g : getD s (from + i) 0 ≡ getD (drop from l) i 0
-    = rw e (getD-puts (take i (drop from l)) l to 0 (from + i) (λ j hj q. omega arith)) ∙ sym (getD-drop from l i 0) in
-    let t : to + (0 + length (take i (drop from l))) ≡ to + i = omega arith in
-    rw (add-one, take-suc (drop from l) i 0 d, puts-snoc (take i (drop from l)) l to 0 (getD (drop from l) i 0), t, g, e)
 
 -- two lists that begin with parts of one length
 pub append-inj : {A : Type 0} (p q r t : List A) → length p ≡ length q → p ++ r ≡ q ++ t → (p ≡ q) × (r ≡ t)

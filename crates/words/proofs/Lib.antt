@@ -1,4 +1,5 @@
 pub mod Blocks
+pub mod Moves
 pub mod Tests
 pub mod Stacks
 pub mod Entries

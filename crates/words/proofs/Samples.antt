@@ -4,7 +4,7 @@ use mathlib.Core.Bool.{false}
 use mathlib.Core.List.{List, [], _∷_}
 use Prim.Native.Nat.{ℕ, _+_}
 use lib.ListN.{getD}
-use Rattle.words.specs.Blocks.{puts, allZero, eqWords}
+use Rattle.words.specs.Blocks.{puts, moved, allZero, eqWords}
 use Rattle.words.specs.Stacks.{region, entries}
 
 abbrev enc : ℕ → List ℕ
@@ -25,6 +25,9 @@ read = refl
 
 pushed : puts memory 7 0 (enc 7) ≡ 9 ∷ 3 ∷ 6 ∷ 4 ∷ 8 ∷ 5 ∷ 10 ∷ 7 ∷ 14 ∷ 8 ∷ []
 pushed = refl
+
+lowered : moved memory 5 1 2 ≡ 9 ∷ 5 ∷ 10 ∷ 4 ∷ 8 ∷ 0 ∷ 0 ∷ 0 ∷ 0 ∷ 8 ∷ []
+lowered = refl
 
 longer : eqWords (1 ∷ []) (1 ∷ 2 ∷ []) ≡ false
 longer = refl

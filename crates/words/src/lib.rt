@@ -1,8 +1,9 @@
-// Words of lent memory: cleared, copied, tested for zeros.
+// Words of lent memory: cleared, moved, tested for zeros.
 ghost use mathlib.Core.Path.{_≡_};
-ghost use Prim.Native.Nat.{_+_, _≤_};
-ghost use lib.ListN.{take, drop, length, replicate};
-ghost use Rattle.words.specs.Blocks.{puts, allZero};
+ghost use mathlib.Core.List.{[], _∷_};
+ghost use Prim.Native.Nat.{_+_, _*_, _≤_};
+ghost use lib.ListN.{take, length, replicate};
+ghost use Rattle.words.specs.Blocks.{puts, moved, allZero};
 
 // Sets every word to zero.
 fn zero(s: &mut [u32])
@@ -24,14 +25,38 @@ pub fn zero_at(m: &mut [u32], at: usize, n: usize)
     zero(&mut m[at..end]);
 }
 
-// Copies the n words at a place to a place that is not above it.
-pub fn copy_down(m: &mut [u32], from: usize, to: usize, n: usize)
-    requires { ⌜ (to ≤ from) × (from + n ≤ length (now m)) ⌝ }
-    ensures { λ _. ⌜ now (m .exit) ≡ puts (now (m .entry)) to 0 (take n (drop from (now (m .entry)))) ⌝ }
+// Stores four words at a place.
+pub fn put_four(m: &mut [u32], at: usize, a: u32, b: u32, c: u32, d: u32)
+    requires { ⌜ at + 4 ≤ length (now m) ⌝ }
+    ensures { λ _. ⌜ now (m .exit) ≡ puts (now (m .entry)) at 0 (a ∷ b ∷ c ∷ d ∷ []) ⌝ }
+{
+    m[at + 0] = a;
+    m[at + 1] = b;
+    m[at + 2] = c;
+    m[at + 3] = d;
+}
+
+// Moves the four words at a place to a place below them, and leaves zeros.
+fn move_four(m: &mut [u32], from: usize, to: usize)
+    requires { ⌜ (to + 4 ≤ from) × (from + 4 ≤ length (now m)) ⌝ }
+    ensures { λ _. ⌜ now (m .exit) ≡ moved (now (m .entry)) from to 4 ⌝ }
+{
+    let a = m[from + 0];
+    let b = m[from + 1];
+    let c = m[from + 2];
+    let d = m[from + 3];
+    put_four(m, to, a, b, c, d);
+    put_four(m, from, 0, 0, 0, 0)
+}
+
+// Moves n times four words at a place to a place below all of them, and leaves zeros.
+pub fn move_down(m: &mut [u32], from: usize, to: usize, n: usize)
+    requires { ⌜ (to + n * 4 ≤ from) × (from + n * 4 ≤ length (now m)) ⌝ }
+    ensures { λ _. ⌜ now (m .exit) ≡ moved (now (m .entry)) from to (n * 4) ⌝ }
 {
     let mut i = 0;
     while i < n {
-        m[to + i] = m[from + i];
+        move_four(m, from + i * 4, to + i * 4);
         i += 1;
     }
 }

@@ -1,51 +1,16 @@
-use native.Mathlib.Omega.{arith}
 use Rattle.state_words.specs.Meaning.{frameAt}
-use lib.ListN.{length-set}
 use borrow.Author.Needs.{needs}
 use Rattle.state_words.proofs.frames.put_frame.Statement.{statement}
 use Rattle.state_words.proofs.frames.put_frame.Tie as tie
 
-mul-at : tie.Need-mul-at
-mul-at c = search needs
+mul-put-four : tie.Need-mul-put-four
+mul-put-four c = search needs
 
-add-at : tie.Need-add-at
-add-at c = search needs
+add-put-four : tie.Need-add-put-four
+add-put-four c = search needs
 
-add-m : tie.Need-add-m
-add-m c = search needs
-
-mul-m : tie.Need-mul-m
-mul-m c = search needs
-
-slice-write-m : tie.Need-slice-write-m
-slice-write-m c = search needs
-
-add-m-2 : tie.Need-add-m-2
-add-m-2 c = search needs
-
-mul-m-2 : tie.Need-mul-m-2
-mul-m-2 c = search needs
-
-slice-write-m-2 : tie.Need-slice-write-m-2
-slice-write-m-2 c = simp length-set (omega arith)
-
-add-m-3 : tie.Need-add-m-3
-add-m-3 c = search needs
-
-mul-m-3 : tie.Need-mul-m-3
-mul-m-3 c = search needs
-
-slice-write-m-3 : tie.Need-slice-write-m-3
-slice-write-m-3 c = simp length-set (omega arith)
-
-add-m-4 : tie.Need-add-m-4
-add-m-4 c = search needs
-
-mul-m-4 : tie.Need-mul-m-4
-mul-m-4 c = search needs
-
-slice-write-m-4 : tie.Need-slice-write-m-4
-slice-write-m-4 c = simp length-set (omega arith)
+put-four-requires : tie.Need-put-four-requires
+put-four-requires c κs = search needs
 
 same-length : tie.Need-same-length
 same-length c = search needs
@@ -56,21 +21,4 @@ returns c = search needs
 
 pub put-frame-spec : {M : Type 1} → statement M
 put-frame-spec =
-    tie.close
-    (tie.spec
-    mul-at
-    add-at
-    add-m
-    mul-m
-    slice-write-m
-    add-m-2
-    mul-m-2
-    slice-write-m-2
-    add-m-3
-    mul-m-3
-    slice-write-m-3
-    add-m-4
-    mul-m-4
-    slice-write-m-4
-    same-length
-    returns)
+    tie.close (tie.spec mul-put-four add-put-four put-four-requires same-length returns)
