@@ -1,9 +1,9 @@
 -- Functions entered and left while a state runs.
 use mathlib.Core.Path.{_≡_, refl, sym, ap, _∙_}
 use mathlib.Core.List.{List, [], _∷_, _++_, append-assoc}
-use Prim.Native.Nat.{ℕ, suc, _+_, _*_, _-_, _≤_, _<_}
+use Prim.Native.Nat.{ℕ, suc, _+_, _*_, _-_, _≤_, _<_, min}
 use native.Mathlib.Nat.{add-zero}
-use native.Mathlib.Omega.{arith}
+use native.Mathlib.Omega.{arith, min-cases}
 use lib.ListN.{length, getD, set, take, drop, replicate, length-append, length-replicate, replicate-append-replicate}
 use Rattle.words.specs.Blocks.{puts, moved}
 use Rattle.words.proofs.Moves.{puts-next, puts-swap}
@@ -16,7 +16,7 @@ use Rattle.spec_image.specs.Core.{core}
 use Rattle.spec_image.proofs.ValueWords.{length-values, length-nodes}
 use Rattle.spec_image.proofs.Images.{length-saved}
 use Rattle.spec_image.proofs.SlotWords.{length-value, values-one, blank-values}
-use Rattle.spec_image.proofs.Rooms.{rooms, filled-is, frame-clear, frame-part, frames-pop, activation-push, activation-pop, caller-word}
+use Rattle.spec_image.proofs.Rooms.{rooms, filled-is, frame-clear, frame-part, frames-pop, activation-push, activation-pop, activation-clear, activation-word, caller-word}
 use Rattle.spec_image.proofs.Frames.{headKind, headWord, core-rooms, frame-words}
 use Rattle.spec_image.proofs.Operands.{gather-slots}
 use Rattle.spec_image.proofs.Variables.{activation-words, rooms-values, rooms-count}
@@ -157,6 +157,21 @@ enter-main R z at g c all place short =
 
 -- ---- left
 
+module _ (H R : List ℕ) (X : List Activation) (F : List Frame) (head : length H ≡ 128) (a : ℕ) (count : a ≡ length X) where
+  -- the top activation is taken off by clearing the words that it uses, by the number of variables that it says
+  rooms-leave : (f k : ℕ) (η : List Value) → a < 32 → let m = rooms H (activation f k η ∷ X) F ++ R in
+      puts m (128 + a * 136) 0 (replicate (8 + min (getD m (128 + a * 136 + 2) 0) 64 * 2) 0) ≡ rooms H X F ++ R
+  unfolding activationWords filled
+  rooms-leave f k η room =
+      let m = rooms H (activation f k η ∷ X) F ++ R in
+      let c : getD m (128 + a * 136 + 2) 0 ≡ length η = activation-word H R X F head a count (activation f k η) 2 (omega arith) in
+      let ws : List ℕ = f ∷ k ∷ length η ∷ 0 ∷ 0 ∷ 0 ∷ 0 ∷ 0 ∷ valuesWords η in
+      rw c
+      (min-cases (length η) 64 (puts m (128 + a * 136) 0 (replicate (8 + min (length η) 64 * 2) 0) ≡ rooms H X F ++ R)
+      (λ h e. rw e
+      (activation-clear H R X F head a count (activation f k η) ws (8 + length η * 2) room (omega (arith, length-values η)) (omega arith) refl))
+      (λ h e. rw e (activation-pop H R X F head a count (activation f k η) room)))
+
 module _ (f : ℕ) (η : List Value) (J : List Frame) (R : List ℕ) where
   -- the caller's function
   pub caller-function : (g : ℕ) (θ : List Value) (L : List Frame) (A : List Saved) (a b : ℕ) → a ≡ length A → b ≡ 128 + a * 136
@@ -180,8 +195,9 @@ module _ (f : ℕ) (η : List Value) (J : List Frame) (R : List ℕ) where
   module _ (g : ℕ) (θ : List Value) (L : List Frame) (A : List Saved) (n a at b here size : ℕ) (under : n ≡ length (L ++ savedFrames A)) (count : a ≡ length A)
       (top : at ≡ 4480 + n * 20) (old : b ≡ 128 + a * 136 + 1) (new : here ≡ 128 + (a + 1) * 136) (sized : size ≡ length J * 20)
       (room : a + 1 < 32) (fewer : length J + n ≤ 512) where
-    -- the frames are taken off, then the activation, and the caller's frame count is taken out
-    pub leave : set (puts (puts (core f η J (saved g θ L ∷ A) ++ R) at 0 (replicate size 0)) here 0 (replicate 136 0)) b 0 ≡ core g θ L A ++ R
+    -- the frames are taken off, then the activation by the words that it uses, and the caller's frame count is taken out
+    pub leave : let m = puts (core f η J (saved g θ L ∷ A) ++ R) at 0 (replicate size 0) in
+        set (puts m here 0 (replicate (8 + min (getD m (here + 2) 0) 64 * 2) 0)) b 0 ≡ core g θ L A ++ R
     unfolding savedActivations savedFrames
     leave =
         let Z : List ℕ = replicate 128 0 in
@@ -197,7 +213,7 @@ module _ (f : ℕ) (η : List Value) (J : List Frame) (R : List ℕ) where
           core-rooms f η J (saved g θ L ∷ A),
           core-rooms g θ L A,
           frames-pop Z R (activation f 0 η ∷ activation g (length L) θ ∷ X) (L ++ savedFrames A) z i n under J fewer,
-          activation-pop Z R (activation g (length L) θ ∷ X) (L ++ savedFrames A) z (a + 1) c (activation f 0 η) room,
+          rooms-leave Z R (activation g (length L) θ ∷ X) (L ++ savedFrames A) z (a + 1) c f 0 η room,
         )
         (rooms-count Z R X (L ++ savedFrames A) z a (count ∙ sym (length-saved A)) g (length L) θ 0)
 

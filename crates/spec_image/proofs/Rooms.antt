@@ -239,6 +239,13 @@ module _ (H R : List ℕ) (X : List Activation) (F : List Frame) (head : length 
       (puts-block (replicate 136 0) (activationWords x) (low H R X F) (high H R X F) (128 + a * 136) 0
       (length-low ∙ sym (add-zero (128 + a * 136))) (activation-wide x ∙ sym (length-replicate {A = ℕ} 136 0)))
 
+  -- it is taken off by clearing at least its words that are not zeros at the end
+  pub activation-clear : (x : Activation) (vs : List ℕ) (k : ℕ) → a < 32 → length vs ≤ k → k ≤ 136 → activationWords x ≡ filled 136 vs
+      → puts (rooms H (x ∷ X) F ++ R) (128 + a * 136) 0 (replicate k 0) ≡ rooms H X F ++ R
+  activation-clear x vs k room used short e =
+      rw (activation-free H R X F (omega arith), activation-held H R X F x, e)
+      (clearing 136 (low H R X F) (high H R X F) (128 + a * 136) length-low vs k used short)
+
   module _ (x : Activation) where
     -- one word of the top activation
     pub activation-word : (j : ℕ) → j < 136 → getD (rooms H (x ∷ X) F ++ R) (128 + a * 136 + j) 0 ≡ getD (activationWords x) j 0

@@ -41,7 +41,7 @@ pub fn leave(m: &mut [u32], n: usize, a: usize, j: usize)
     ensures { λ _. ⌜ ((f : ℕ) (η : List Value) (J : List Frame) (g : ℕ) (θ : List Value) (L : List Frame) (A : List Saved) (R : List ℕ) → now (m .entry) ≡ core f η J (saved g θ L ∷ A) ++ R → a ≡ length A → n ≡ length (L ++ savedFrames A) → j ≡ length J → now (m .exit) ≡ core g θ L A ++ R) ⌝ }
 {
     state_words::frames::drop_frames(m, n, j);
-    state_words::activations::drop_activation(m, a + 1);
+    state_words::activations::drop_used(m, a + 1);
     state_words::activations::put_frame_count(m, a, 0)
 }
 

@@ -2,12 +2,13 @@
 use crate::Value;
 use crate::layout::ACTIVATION_WORDS;
 use crate::layout::ACTIVATIONS;
+use crate::layout::VARIABLE_ROOM;
 use crate::layout::VARIABLES;
 ghost use mathlib.Core.Path.{_≡_};
 ghost use mathlib.Core.List.{[], _∷_};
-ghost use Prim.Native.Nat.{_+_, _*_, _≤_, _<_};
+ghost use Prim.Native.Nat.{_+_, _*_, _≤_, _<_, min};
 ghost use lib.ListN.{length, getD, replicate};
-ghost use Rattle.spec_image.specs.Sizes.{activationSize, callerRoom, size, variableRoom};
+ghost use Rattle.spec_image.specs.Sizes.{activationSize, callerRoom, size, variableRoom, variablesFrom};
 ghost use Rattle.words.specs.Blocks.{puts};
 ghost use Rattle.spec_image.specs.Layout.{valueWords};
 ghost use Rattle.spec_image.specs.Decode.{valueOf, heldIn};
@@ -61,6 +62,22 @@ pub fn drop_activation(m: &mut [u32], n: usize)
     ensures { λ _. ⌜ now (m .exit) ≡ puts (now (m .entry)) (activationAt n) 0 (replicate activationSize 0) ⌝ }
 {
     words::zero_at(m, ACTIVATIONS + n * ACTIVATION_WORDS, ACTIVATION_WORDS);
+}
+
+// The words that an activation uses, by the number of variables that it says, set to zero.
+pub fn drop_used(m: &mut [u32], n: usize)
+    requires { ⌜ (size ≤ length (now m)) × (n < callerRoom) ⌝ }
+    ensures { λ _. ⌜ now (m .exit) ≡ puts (now (m .entry)) (activationAt n) 0 (replicate (variablesFrom + min (getD (now (m .entry)) (activationAt n + 2) 0) variableRoom * 2) 0) ⌝ }
+{
+    let c = activation_word(m, n, 2);
+    if VARIABLE_ROOM < c {
+        return drop_activation(m, n);
+    }
+    words::zero_at(
+        m,
+        ACTIVATIONS + n * ACTIVATION_WORDS,
+        VARIABLES + c as usize * 2,
+    )
 }
 
 // Variable x of the activation with n activations under it.

@@ -10,11 +10,11 @@ use Rattle.state_stack.proofs.activations.leave.Tie as tie
 drop-frames-requires : tie.Need-drop-frames-requires
 drop-frames-requires c κs = search needs
 
-add-drop-activation : tie.Need-add-drop-activation
-add-drop-activation c = search needs
+add-drop-used : tie.Need-add-drop-used
+add-drop-used c = search needs
 
-drop-activation-requires : tie.Need-drop-activation-requires
-drop-activation-requires c κs = search needs
+drop-used-requires : tie.Need-drop-used-requires
+drop-used-requires c κs = search needs
 
 put-frame-count-requires : tie.Need-put-frame-count-requires
 put-frame-count-requires c κs = search needs
@@ -28,7 +28,7 @@ returns c f η J g θ L A R e a n j =
     let x = c .before .before .before .before .before .before .before .before .before .before .before .before .before .args in
     let p = c .before .before .before .before .before .before .before .before .before .before .before .before .before .pre in
     c .before .before .put-frame-count .ensures
-    ∙ rw (c .before .before .before .before .before .before .drop-activation .ensures, c .before .before .before .before .before .before .before .before .before .before .drop-frames .ensures, e)
+    ∙ rw (c .before .before .before .before .before .before .drop-used .ensures, c .before .before .before .before .before .before .before .before .before .before .drop-frames .ensures, e)
     (calls.leave f η J R g θ L A (x .n) (x .a) (4480 + x .n * 20) (128 + x .a * 136 + 1 + 0) (128 + (x .a + 1) * 136) (x .j * 20) n a refl (omega arith) refl
     (omega arith) (p .2) (omega arith))
 
@@ -37,8 +37,8 @@ leave-spec =
     tie.close
     (tie.spec
     drop-frames-requires
-    add-drop-activation
-    drop-activation-requires
+    add-drop-used
+    drop-used-requires
     put-frame-count-requires
     same-length
     returns)
