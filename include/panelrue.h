@@ -24,8 +24,8 @@ extern "C" {
 /* The version of the library, as CHANGELOG.md numbers it. */
 #define PANELRUE_VERSION_MAJOR 0
 #define PANELRUE_VERSION_MINOR 3
-#define PANELRUE_VERSION_PATCH 0
-#define PANELRUE_VERSION "0.3.0"
+#define PANELRUE_VERSION_PATCH 1
+#define PANELRUE_VERSION "0.3.1"
 
 /* The bytes of the longest procedure that can pass: a header, 128 functions and 4,096 nodes of 12 bytes each. */
 #define PANELRUE_LONGEST_FILE 50700
