@@ -20,6 +20,14 @@ pub struct Side {
     pub check: fn(&[u8]) -> Answer,
 }
 
+/// The words after the image that a test lends.
+pub const TAIL: usize = 100;
+
+/// Words that an earlier run might have left: none is zero, so that they are no image.
+pub fn used(length: usize) -> Vec<u32> {
+    (0..length as u32).map(|i| i.wrapping_mul(2_654_435_761) | 1).collect()
+}
+
 /// How many times as many random cases are drawn as in the gate: the whole number that PANELRUE_SCALE says, else 1.
 pub fn scale() -> u64 {
     let asked = std::env::var("PANELRUE_SCALE").ok().and_then(|n| n.parse().ok());

@@ -2,19 +2,13 @@
 
 use crate::proved;
 use crate::report::Outcome;
-use crate::worked;
-use crate::Answer;
+use crate::{used, worked, Answer, TAIL};
 
 /// The words of an image.
 const IMAGE: usize = 16_384;
 
 /// The lengths that are tried: none, short by one, exact, and longer.
-const LENGTHS: [usize; 5] = [0, 1, IMAGE - 1, IMAGE, IMAGE + 100];
-
-/// Memory that an earlier run might have left: no word is zero.
-fn used(length: usize) -> Vec<u32> {
-    (0..length as u32).map(|i| i.wrapping_mul(2_654_435_761) | 1).collect()
-}
+const LENGTHS: [usize; 5] = [0, 1, IMAGE - 1, IMAGE, IMAGE + TAIL];
 
 /// What a start should answer, from what the check answers.
 fn expected(checked: Answer, length: usize) -> Answer {

@@ -1,8 +1,9 @@
 //! The rows of the paper's table through the entry points.
 
-use super::trial::{used, Model, Trial};
+use super::trial::{Model, Trial};
 use super::{worked, Entries};
 use crate::report::Outcome;
+use crate::used;
 use reference::image::{encode_into, WORDS};
 use reference::machine::{Outcome as End, State};
 

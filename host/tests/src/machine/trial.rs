@@ -2,14 +2,11 @@
 
 use super::Entries;
 use crate::report::{shown, Outcome};
-use crate::Answer;
+use crate::{used, Answer, TAIL};
 use generators::File;
 use reference::fit::Judge;
 use reference::image::{encode_into, WORDS};
 use reference::machine::{look_up, run, Outcome as End, Program, State};
-
-/// The words after the image that a trial lends.
-const TAIL: usize = 100;
 
 /// An accepted file with the reference's reading of it.
 pub struct Model {
@@ -33,11 +30,6 @@ impl Model {
         let (end, taken) = run(&self.judge.program, &mut state, steps);
         (state, end, taken)
     }
-}
-
-/// Words that no image has: no word is zero.
-pub fn used(length: usize) -> Vec<u32> {
-    (0..length as u32).map(|i| i.wrapping_mul(2_654_435_761) | 1).collect()
 }
 
 /// A memory under test and the state that it must hold.
