@@ -1,14 +1,28 @@
 //! The worked files with their answers, and the sides that are asked.
 
 pub mod case;
-pub mod machine;
+#[cfg(feature = "before")]
+pub mod copies;
 #[cfg(feature = "proved")]
-pub mod proved;
+mod linked;
+pub mod machine;
 pub mod random;
 pub mod report;
 #[cfg(feature = "proved")]
 pub mod starts;
 pub mod worked;
+
+#[cfg(feature = "proved")]
+linked::linked! {
+    /// The library of this tree.
+    proved, ""
+}
+
+#[cfg(feature = "before")]
+linked::linked! {
+    /// The library of an earlier release.
+    before, "before_"
+}
 
 /// What a check answers: none if the file is accepted.
 pub type Answer = Option<reference::Refusal>;

@@ -56,13 +56,7 @@ pub fn entries() -> Vec<Entries> {
             look_up: fast::machine::look_up,
         },
         #[cfg(feature = "machine")]
-        Entries {
-            name: "proved",
-            start: crate::proved::start,
-            run: crate::proved::run,
-            memory_check: crate::proved::memory_check,
-            look_up: crate::proved::look_up,
-        },
+        crate::proved::ENTRIES,
     ]
 }
 
