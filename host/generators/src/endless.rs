@@ -6,18 +6,31 @@ use crate::tree::*;
 /// A named program.
 pub type Program = (&'static str, fn() -> File);
 
-/// Every program by its name.
+/// The programs that are timed, by their names.
 pub const ALL: [Program; 10] = [
     ("counting", counting),
     ("arithmetic", arithmetic),
     ("conditions", conditions),
     ("decls in a loop", decls),
+    CALLS[0],
+    CALLS[1],
+    CALLS[2],
+    CALLS[4],
+    CALLS[8],
+    ("recursion", recursion),
+];
+
+/// The calls by the number of their arguments.
+pub const CALLS: [Program; 9] = [
     ("calls without arguments", || calls(0)),
     ("calls of one argument", || calls(1)),
     ("calls of two arguments", || calls(2)),
+    ("calls of three arguments", || calls(3)),
     ("calls of four arguments", || calls(4)),
+    ("calls of five arguments", || calls(5)),
+    ("calls of six arguments", || calls(6)),
+    ("calls of seven arguments", || calls(7)),
     ("calls of eight arguments", || calls(8)),
-    ("recursion", recursion),
 ];
 
 /// A main that sets x0 to 0 and repeats a statement.

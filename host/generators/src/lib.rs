@@ -2,6 +2,7 @@
 
 pub mod aimed;
 mod aimed_reads;
+pub mod calls;
 pub mod depth;
 mod draw;
 mod draw_stmt;
