@@ -105,6 +105,6 @@ pub fn shown(answer: Answer) -> String {
 }
 
 /// A file's bytes in hex.
-fn hex(file: &[u8]) -> String {
+pub fn hex(file: &[u8]) -> String {
     file.iter().map(|byte| format!("{byte:02x}")).collect()
 }
