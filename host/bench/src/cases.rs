@@ -1,7 +1,7 @@
 //! The check on a small, a typical, the largest and the deepest files.
 
 use crate::grouped;
-use crate::timing::{checks, medians};
+use bench::timing::{checks, medians};
 use generators::rng::Rng;
 use generators::tree::{int, main, ret};
 use generators::{lively, shapes, File};

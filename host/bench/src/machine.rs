@@ -8,7 +8,7 @@ mod resume;
 mod steps;
 
 use crate::grouped;
-use crate::timing::{ask, checks, medians_of_all, Call};
+use bench::timing::{ask, checks, go_on, medians_of_all, step_times, Call, Reached};
 use generators::File;
 use reference::image::{ACTIVATION, ACTIVATIONS, FRAMES, WORDS};
 use std::hint::black_box;
@@ -62,19 +62,10 @@ impl Sides {
         medians_of_all(calls).chunks_exact(2).map(|times| [times[0], times[1]]).collect()
     }
 
-    /// The nanoseconds of a step from each memory on both sides: a run of so many less a run of none, all timed in turn.
-    fn steps(&self, from: &[(Vec<u8>, Vec<u32>)], steps: u64) -> Vec<[f64; 2]> {
-        let ways = [(self.judged, 0), (self.plain, 0), (self.judged, steps), (self.plain, steps)];
-        let calls = from.iter().flat_map(|(file, memory)| {
-            ways.map(|(side, allowance)| {
-                let mut memory = memory.clone();
-                Box::new(move || go_on(&side, file, &mut memory, allowance)) as Call
-            })
-        });
-        let each = |times: &[f64]| {
-            [times[2] - times[0], times[3] - times[1]].map(|time| time.max(0.0) / steps as f64)
-        };
-        medians_of_all(calls).chunks_exact(ways.len()).map(each).collect()
+    /// The nanoseconds of a step from each memory on both sides, all timed in turn.
+    fn steps(&self, from: &[Reached], steps: u64) -> Vec<[f64; 2]> {
+        let times = step_times(&[self.judged, self.plain], from, steps);
+        times.into_iter().map(|each| [each[0], each[1]]).collect()
     }
 
     /// The nanoseconds of a check of each file and of a memory check of each memory, on both sides, all timed in turn.
@@ -98,11 +89,6 @@ impl Sides {
         let times = medians_of_all(calls);
         times.chunks_exact(4).map(|t| [[t[0], t[1]], [t[2], t[3]]]).collect()
     }
-}
-
-/// One run of one side.
-fn go_on(side: &Entries, file: &[u8], memory: &mut [u32], allowance: u64) {
-    assert!(black_box((side.run)(black_box(file), memory, allowance)).is_ok());
 }
 
 /// The waiting frames and the saved callers of a running state's image, main's empty caller included.

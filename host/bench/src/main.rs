@@ -4,10 +4,9 @@
 
 mod cases;
 mod machine;
-mod timing;
 
+use bench::timing::{ask, checks, judged, medians_of_all, Call};
 use generators::{late, shapes};
-use timing::{ask, checks, judged, medians_of_all, Call};
 
 /// The numbers of nodes timed.
 const SIZES: [usize; 6] = [128, 256, 512, 1024, 2048, 4096];

@@ -2,6 +2,7 @@
 
 use std::hint::black_box;
 use std::time::{Duration, Instant};
+use tests::machine::Entries;
 use tests::{sides, Answer, Side};
 
 /// A check under time.
@@ -76,4 +77,29 @@ pub fn medians_of_all<'a>(calls: impl Iterator<Item = Call<'a>>) -> Vec<f64> {
         samples[samples.len() / 2]
     };
     timed.into_iter().map(median).collect()
+}
+
+/// A file and the memory of a state of its program.
+pub type Reached = (Vec<u8>, Vec<u32>);
+
+/// One run of one side.
+pub fn go_on(side: &Entries, file: &[u8], memory: &mut [u32], allowance: u64) {
+    assert!(black_box((side.run)(black_box(file), memory, allowance)).is_ok());
+}
+
+/// The nanoseconds of a step from each memory on each side: a run of so many less a run of none, all timed in turn.
+pub fn step_times(sides: &[Entries], from: &[Reached], steps: u64) -> Vec<Vec<f64>> {
+    let ways = || [0, steps].into_iter().flat_map(|n| sides.iter().map(move |&side| (side, n)));
+    let calls = from.iter().flat_map(|(file, memory)| {
+        ways().map(move |(side, allowance)| {
+            let mut memory = memory.clone();
+            Box::new(move || go_on(&side, file, &mut memory, allowance)) as Call
+        })
+    });
+    let each = |times: &[f64]| {
+        let (none, many) = times.split_at(sides.len());
+        let step = |(none, many): (&f64, &f64)| (many - none).max(0.0) / steps as f64;
+        none.iter().zip(many).map(step).collect()
+    };
+    medians_of_all(calls).chunks_exact(2 * sides.len()).map(each).collect()
 }
