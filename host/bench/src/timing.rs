@@ -72,11 +72,14 @@ pub fn medians_of_all<'a>(calls: impl Iterator<Item = Call<'a>>) -> Vec<f64> {
             samples.push(taken.as_nanos() as f64 / f64::from(*count));
         }
     }
-    let median = |(_, _, mut samples): (u32, Call, Vec<f64>)| {
-        samples.sort_by(f64::total_cmp);
-        samples[samples.len() / 2]
-    };
-    timed.into_iter().map(median).collect()
+    timed.into_iter().map(|(_, _, samples)| median(samples)).collect()
+}
+
+/// The median, which is between the two in the middle where their number is even.
+pub fn median(mut samples: Vec<f64>) -> f64 {
+    samples.sort_by(f64::total_cmp);
+    let half = samples.len() / 2;
+    (samples[half] + samples[samples.len() - 1 - half]) / 2.0
 }
 
 /// A file and the memory of a state of its program.

@@ -1,9 +1,14 @@
 //! Compares releases of the library on calls of 0 to 8 arguments and on other programs, step by step.
 
+#[cfg(feature = "before")]
+mod compare;
 mod held;
 mod read;
+mod steps;
 #[cfg(test)]
 mod test;
+#[cfg(feature = "before")]
+mod times;
 mod trace;
 
 use generators::calls;
@@ -12,8 +17,12 @@ use tests::machine::{entries, Entries};
 
 /// What the program can be asked.
 const USAGE: &str = "\
-releases held PATH       holds the linked sides to a stored trace
-releases trace [before]  prints the trace of this tree's library, or of the earlier release";
+releases held PATH                  holds the linked sides to a stored trace
+releases trace [before]             prints the trace of this tree's library, or of the earlier release
+releases compare                    compares both releases after every step
+releases times                      prints the time of a step of both releases
+releases programs                   prints the names of the endless programs
+releases steps SIDE PROGRAM STEPS   runs one of them on `before` or `now`, 1,000 steps and these";
 
 /// The library of this tree, or the earlier release, if it is linked.
 fn release(name: &str) -> Result<Entries, String> {
@@ -21,7 +30,9 @@ fn release(name: &str) -> Result<Entries, String> {
         "now" => entries().get(2).copied().ok_or("built without the feature `machine`".to_string()),
         #[cfg(feature = "before")]
         "before" => Ok(tests::before::ENTRIES),
-        _ => Err(format!("no release {name} is linked")),
+        #[cfg(not(feature = "before"))]
+        "before" => Err("built without the feature `before`".to_string()),
+        _ => Err(USAGE.to_string()),
     }
 }
 
@@ -34,12 +45,24 @@ fn print_trace(side: &Entries) -> Result<bool, String> {
     Ok(true)
 }
 
+/// Prints the names of the endless programs.
+fn print_programs() -> Result<bool, String> {
+    steps::programs().iter().for_each(|(name, _)| println!("{name}"));
+    Ok(true)
+}
+
 /// Does what the words ask and gives whether all was as it should be.
 fn answer(words: &[&str]) -> Result<bool, String> {
     match words {
         ["held", path] => held::run(path),
         ["trace"] => print_trace(&release("now")?),
         ["trace", name] => print_trace(&release(name)?),
+        #[cfg(feature = "before")]
+        ["compare"] => compare::run(),
+        #[cfg(feature = "before")]
+        ["times"] => times::print(),
+        ["programs"] => print_programs(),
+        ["steps", name, program, count] => steps::run(&release(name)?, program, count),
         _ => Err(USAGE.to_string()),
     }
 }
