@@ -14,7 +14,11 @@ pub fn run(path: &str) -> Result<bool, String> {
     let traces = read::traces(&text).map_err(|reason| format!("{path}: {reason}"))?;
     let mut total = programs(&traces);
     total.print("programs of the trace", "generators");
-    for side in entries() {
+    let sides = entries();
+    if sides.len() < 3 {
+        println!("the proved library is not linked (feature `machine`)");
+    }
+    for side in sides {
         let outcome = on_side(&side, &traces);
         outcome.print("calls, step by step", side.name);
         total.add(outcome);

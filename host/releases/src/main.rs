@@ -24,6 +24,10 @@ releases times                      prints the time of a step of both releases
 releases programs                   prints the names of the endless programs
 releases steps SIDE PROGRAM STEPS   runs one of them on `before` or `now`, 1,000 steps and these";
 
+/// What is said where the earlier release is asked for and not linked.
+#[cfg(not(feature = "before"))]
+const ALONE: &str = "built without the feature `before`; `tests/releases` builds with it";
+
 /// The library of this tree, or the earlier release, if it is linked.
 fn release(name: &str) -> Result<Entries, String> {
     match name {
@@ -31,7 +35,7 @@ fn release(name: &str) -> Result<Entries, String> {
         #[cfg(feature = "before")]
         "before" => Ok(tests::before::ENTRIES),
         #[cfg(not(feature = "before"))]
-        "before" => Err("built without the feature `before`".to_string()),
+        "before" => Err(ALONE.to_string()),
         _ => Err(USAGE.to_string()),
     }
 }
@@ -61,6 +65,8 @@ fn answer(words: &[&str]) -> Result<bool, String> {
         ["compare"] => compare::run(),
         #[cfg(feature = "before")]
         ["times"] => times::print(),
+        #[cfg(not(feature = "before"))]
+        ["compare" | "times"] => Err(ALONE.to_string()),
         ["programs"] => print_programs(),
         ["steps", name, program, count] => steps::run(&release(name)?, program, count),
         _ => Err(USAGE.to_string()),
