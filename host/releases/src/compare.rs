@@ -1,7 +1,8 @@
 //! The earlier release and this one side by side, after every single step.
 
+use crate::steps::programs;
 use generators::rng::Rng;
-use generators::{calls, endless, lively};
+use generators::{calls, lively};
 use reference::image::WORDS;
 use tests::machine::Entries;
 use tests::report::Outcome;
@@ -123,7 +124,7 @@ pub fn run() -> Result<bool, String> {
     let mut total = Compared::default();
     let calls = calls::programs().into_iter().map(|(name, file)| (name, file.bytes()));
     total.group("calls of 0 to 8 arguments", calls, u64::MAX);
-    let endless = endless::ALL.into_iter().map(|(name, make)| (name.to_string(), make().bytes()));
+    let endless = programs().into_iter().map(|(name, make)| (name.to_string(), make().bytes()));
     total.group("endless programs", endless, MOST);
     total.group("random programs", (0..PROGRAMS * scale()).map(random), MOST);
     let Compared { files, steps, words, outcome } = total;
