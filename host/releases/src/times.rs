@@ -1,21 +1,26 @@
 //! The time of a step of both releases, each in four copies.
 
 use crate::steps::{after, programs, REACHED};
-use bench::timing::{median, step_times, Reached};
+use bench::timing::{step_times, Reached};
 use tests::copies::{BEFORE, NOW};
 
 /// The steps of a timed run.
 const STEPS: u64 = 20_000;
 
-/// The rounds of samples, whose median is taken.
+/// The rounds of samples, of whose medians the least is taken: the machine has slow spells.
 const ROUNDS: usize = 5;
 
-/// The copies' median as a number, and a row's cells of it, of the least and of the greatest copy.
+/// The least of some times.
+fn least(times: impl Iterator<Item = f64>) -> f64 {
+    times.fold(f64::INFINITY, f64::min)
+}
+
+/// The mean of the copies, and a row's cells of it, of the least and of the greatest.
 fn cells(copies: Vec<f64>) -> (f64, String) {
-    let least = copies.iter().copied().fold(f64::INFINITY, f64::min);
+    let least = least(copies.iter().copied());
     let greatest = copies.iter().copied().fold(0.0, f64::max);
-    let middle = median(copies);
-    (middle, format!("{middle:.2} | {least:.2} to {greatest:.2}"))
+    let mean = copies.iter().sum::<f64>() / copies.len() as f64;
+    (mean, format!("{mean:.2} | {least:.2} to {greatest:.2}"))
 }
 
 /// Prints a row for each endless program, with all copies of all programs sampled in turn.
@@ -28,7 +33,7 @@ pub fn print() -> Result<bool, String> {
     println!("| program | before ns/step | its copies | now ns/step | its copies | ratio |");
     println!("|---|---:|---:|---:|---:|---:|");
     for (number, (name, _)) in programs().into_iter().enumerate() {
-        let copy = |copy: usize| median(rounds.iter().map(|round| round[number][copy]).collect());
+        let copy = |copy: usize| least(rounds.iter().map(|round| round[number][copy]));
         let (before, before_cells) = cells((0..BEFORE.len()).map(copy).collect());
         let (now, now_cells) = cells((BEFORE.len()..sides.len()).map(copy).collect());
         println!("| {name} | {before_cells} | {now_cells} | {:.2} |", now / before);
