@@ -5,7 +5,8 @@ use Prim.Native.Nat.{ℕ, suc, _+_, _*_, _-_, _≤_, _<_, min}
 use native.Mathlib.Nat.{add-zero}
 use native.Mathlib.Omega.{arith, min-cases}
 use lib.ListN.{length, getD, set, take, drop, replicate, length-append, length-replicate, replicate-append-replicate}
-use Rattle.words.specs.Blocks.{puts, moved}
+use Rattle.words.specs.Blocks.{puts}
+use Rattle.words.specs.Moves.{moved}
 use Rattle.words.proofs.Moves.{puts-next, puts-swap}
 use Rattle.spec_machine.specs.Values.{Value, nothing, Ty}
 use Rattle.spec_machine.specs.Program.{Operation}

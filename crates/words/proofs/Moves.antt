@@ -6,7 +6,8 @@ use native.Mathlib.Nat.{add-zero, zero-add, add-suc, suc-add, add-assoc}
 use native.Mathlib.Omega.{arith}
 use lib.ListN.{take, drop, length, getD, set, replicate, length-drop, length-replicate, replicate-append-replicate}
 use lib.Seq.{set-comm, drop-set-lt, drop-drop, drop-cons, take-add, length-take-le}
-use Rattle.words.specs.Blocks.{puts, moved}
+use Rattle.words.specs.Blocks.{puts}
+use Rattle.words.specs.Moves.{moved}
 
 -- the words of a block from its word j on
 pub puts-from : (vs l : List ℕ) (at j k : ℕ) → puts l at (j + k) vs ≡ puts l (at + j) k vs

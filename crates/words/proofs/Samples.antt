@@ -4,7 +4,8 @@ use mathlib.Core.Bool.{false}
 use mathlib.Core.List.{List, [], _∷_}
 use Prim.Native.Nat.{ℕ, _+_}
 use lib.ListN.{getD}
-use Rattle.words.specs.Blocks.{puts, moved, allZero, eqWords}
+use Rattle.words.specs.Blocks.{puts, allZero, eqWords}
+use Rattle.words.specs.Moves.{moved}
 use Rattle.words.specs.Stacks.{region, entries}
 
 abbrev enc : ℕ → List ℕ

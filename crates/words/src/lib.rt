@@ -3,7 +3,8 @@ ghost use mathlib.Core.Path.{_≡_};
 ghost use mathlib.Core.List.{[], _∷_};
 ghost use Prim.Native.Nat.{_+_, _*_, _≤_};
 ghost use lib.ListN.{take, length, replicate};
-ghost use Rattle.words.specs.Blocks.{puts, moved, allZero};
+ghost use Rattle.words.specs.Blocks.{puts, allZero};
+ghost use Rattle.words.specs.Moves.{moved};
 
 // Sets every word to zero.
 fn zero(s: &mut [u32])
