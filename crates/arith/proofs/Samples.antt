@@ -3,15 +3,18 @@ use mathlib.Core.Path.{_≡_, refl}
 use mathlib.Core.Bool.{true, false}
 use mathlib.Core.List.{List, [], _∷_, map}
 use Prim.Native.Nat.{ℕ}
+use lib.Dec.{eqb}
 use lib.IntN.{ℤ, pos, negℤ}
+use Rattle.varset.specs.Lowest.{pick}
 use Rattle.arith.specs.Int.{int, wrap}
-use Rattle.arith.specs.Operators.{addOf, subOf, mulOf, quotOf, remOf, shlOf, shrOf, andOf, orOf, xorOf, ltOf, leOf, gtOf, geOf, eqOf, neOf, noQuotient, divided, shifted, results, applied}
+use Rattle.arith.specs.Operators.{addOf, subOf, mulOf, quotOf, remOf, shlOf, shrOf, andOf, orOf, xorOf, ltOf, leOf, gtOf, geOf, eqOf, neOf, noQuotient, divided, noShift, shifted, results, applied}
 use Rattle.arith.specs.declared.Applied.{Applied}
 use Rattle.arith.specs.declared.Applied.the-variants.{Int, Truth, Arith}
 
--- an operator's number, the integers that it is applied to, and what it gives
+-- an operator's number, the integers that it is applied to, and what it gives: in editions 0 and 1, or in each
 pub data Sample : Type 0 where
   sample : ℕ → ℤ → ℤ → Applied → Sample
+  apart : ℕ → ℤ → ℤ → Applied → Applied → Sample
 
 abbrev minus : ℕ → ℤ
 minus n = negℤ (pos n)
@@ -46,12 +49,22 @@ samples =
     ∷ sample 2 least (minus 1) (is least)
     ∷ sample 1 (pos 0) least (is least)
     ∷ sample 1 least (pos 1) (is greatest)
-    ∷ sample 5 (pos 1) (minus 1) (is least)
-    ∷ sample 5 (pos 1) (pos 32) (is (pos 1))
-    ∷ sample 5 (pos 1) (minus 32) (is (pos 1))
-    ∷ sample 5 (pos 1) least (is (pos 1))
-    ∷ sample 6 (minus 8) (minus 31) (is (minus 4))
+    ∷ apart 5 (pos 1) least (is (pos 1)) Arith
+    ∷ apart 5 (pos 1) (minus 32) (is (pos 1)) Arith
+    ∷ apart 5 (pos 1) (minus 1) (is least) Arith
+    ∷ sample 5 (pos 1) (pos 0) (is (pos 1))
+    ∷ sample 5 (pos 1) (pos 31) (is least)
+    ∷ apart 5 (pos 1) (pos 32) (is (pos 1)) Arith
+    ∷ apart 5 (pos 0) (pos 32) (is (pos 0)) Arith
+    ∷ apart 5 (pos 1) greatest (is least) Arith
+    ∷ apart 6 (minus 8) least (is (minus 8)) Arith
+    ∷ apart 6 (minus 8) (minus 31) (is (minus 4)) Arith
+    ∷ apart 6 (minus 8) (minus 1) (is (minus 1)) Arith
+    ∷ sample 6 (minus 8) (pos 0) (is (minus 8))
+    ∷ sample 6 (minus 8) (pos 31) (is (minus 1))
     ∷ sample 6 least (pos 31) (is (minus 1))
+    ∷ apart 6 (minus 8) (pos 32) (is (minus 8)) Arith
+    ∷ apart 6 (minus 8) greatest (is (minus 1)) Arith
     ∷ sample 10 greatest least (Truth false)
     ∷ sample 11 least greatest (Truth true)
     ∷ sample 12 greatest least (Truth true)
@@ -63,13 +76,18 @@ samples =
     ∷ sample 9 (minus 1) greatest (is least)
     ∷ []
 
-abbrev found : Sample → Applied
-found (sample op x y r) = applied 0 op (wrap x) (wrap y)
+abbrev found : ℕ → Sample → Applied
+found edition (sample op x y r) = applied edition op (wrap x) (wrap y)
+found edition (apart op x y r q) = applied edition op (wrap x) (wrap y)
 
-abbrev told : Sample → Applied
-told (sample op x y r) = r
+abbrev told : ℕ → Sample → Applied
+told edition (sample op x y r) = r
+told edition (apart op x y r q) = pick (eqb edition 0) r q
 
--- each operator gives of the integers what is told
-pub worked : map found samples ≡ map told samples
-unfolding int wrap addOf subOf mulOf quotOf remOf shlOf shrOf andOf orOf xorOf ltOf leOf gtOf geOf eqOf neOf noQuotient divided shifted results applied
-worked = refl
+-- in an edition each operator gives of the integers what is told
+abbrev Right : ℕ → Type 0
+Right edition = map (found edition) samples ≡ map (told edition) samples
+
+pub worked : Right 0 × Right 1
+unfolding int wrap addOf subOf mulOf quotOf remOf shlOf shrOf andOf orOf xorOf ltOf leOf gtOf geOf eqOf neOf noQuotient divided noShift shifted results applied
+worked = (refl, refl)

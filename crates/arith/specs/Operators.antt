@@ -84,9 +84,13 @@ noQuotient a b = eqb b 0 || (eqb a (wrap (negℤ (pos (2 ^ 31)))) && eqb b (wrap
 unfoldable pub divided : ℕ → ℕ → ℕ → Applied
 divided a b result = pick (noQuotient a b) Arith (Int result)
 
--- a shift count is its low five bits, in every edition
+-- the count is below 0 or above 31
+unfoldable pub noShift : ℕ → Bool
+noShift count = ltZ (int count) (pos 0) || ltZ (pos 31) (int count)
+
+-- edition 0 keeps a shift count's low five bits; after it both shifts raise arith there
 unfoldable pub shifted : ℕ → (ℕ → ℕ) → ℕ → Applied
-shifted edition shift count = Int (shift (count % 32))
+shifted edition shift count = pick (eqb edition 0) (Int (shift (count % 32))) (pick (noShift count) Arith (Int (shift count)))
 
 -- the results of the operators in order; 10 to 15 give bool
 unfoldable pub results : ℕ → ℕ → ℕ → List Applied

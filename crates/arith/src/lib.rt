@@ -1,7 +1,13 @@
 // The operators on integers of 32 bits, held as words of u32.
+use records::edition_of;
 ghost use mathlib.Core.Path.{_≡_};
+ghost use mathlib.Core.Bool.{not, _&&_};
+ghost use Prim.Native.Nat.{_≤_};
+ghost use lib.Dec.{eqb};
+ghost use lib.ListN.{length};
+ghost use Rattle.records.specs.Fields.{editionOf};
 ghost use Rattle.arith.specs.Int.{int, wrap};
-ghost use Rattle.arith.specs.Operators.{addOf, subOf, mulOf, quotOf, remOf, shlOf, shrOf, ltOf, leOf, noQuotient, divided, shifted, applied};
+ghost use Rattle.arith.specs.Operators.{addOf, subOf, mulOf, quotOf, remOf, shlOf, shrOf, ltOf, leOf, noQuotient, divided, noShift, shifted, applied};
 
 // What an operator gives: an int, as a word, a bool, or the exception arith.
 pub enum Applied {
@@ -85,10 +91,20 @@ fn rem(a: u32, b: u32) -> Applied
     Applied::Int(bits(x % y))
 }
 
+// Whether both shifts by a count raise arith in an edition.
+fn no_shift(edition: u8, count: u32) -> bool
+    ensures { λ r. ⌜ r ≡ not (eqb edition 0) && noShift count ⌝ }
+{
+    (edition != 0) & (32 <= count)
+}
+
 // The shift to the left.
 fn shl(edition: u8, a: u32, b: u32) -> Applied
     ensures { λ r. ⌜ r ≡ shifted edition (shlOf a) b ⌝ }
 {
+    if no_shift(edition, b) {
+        return Applied::Arith;
+    }
     Applied::Int(a << (b % 32))
 }
 
@@ -96,6 +112,9 @@ fn shl(edition: u8, a: u32, b: u32) -> Applied
 fn shr(edition: u8, a: u32, b: u32) -> Applied
     ensures { λ r. ⌜ r ≡ shifted edition (shrOf a) b ⌝ }
 {
+    if no_shift(edition, b) {
+        return Applied::Arith;
+    }
     let z = signed(a);
     let n = (b % 32) as i32;
     Applied::Int(bits(z >> n))
@@ -115,9 +134,10 @@ fn le(a: u32, b: u32) -> bool
     signed(a) <= signed(b)
 }
 
-// What operator number op gives.
-pub fn apply(edition: u8, op: u8, a: u32, b: u32) -> Applied
-    ensures { λ r. ⌜ r ≡ applied edition op a b ⌝ }
+// What operator number op gives in the edition of a file, which a shift alone asks for.
+pub fn apply(file: &[u8], op: u8, a: u32, b: u32) -> Applied
+    requires { ⌜ 12 ≤ length (now file) ⌝ }
+    ensures { λ r. ⌜ r ≡ applied (editionOf (now (file .entry))) op a b ⌝ }
 {
     match op {
         0 => Applied::Int(add(a, b)),
@@ -125,8 +145,8 @@ pub fn apply(edition: u8, op: u8, a: u32, b: u32) -> Applied
         2 => Applied::Int(mul(a, b)),
         3 => quot(a, b),
         4 => rem(a, b),
-        5 => shl(edition, a, b),
-        6 => shr(edition, a, b),
+        5 => shl(edition_of(file), a, b),
+        6 => shr(edition_of(file), a, b),
         7 => Applied::Int(a & b),
         8 => Applied::Int(a | b),
         9 => Applied::Int(a ^ b),

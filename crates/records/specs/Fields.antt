@@ -16,6 +16,10 @@ functions s = u16At s 2
 unfoldable pub nodes : List ℕ → ℕ
 nodes s = u32At s 4
 
+-- the header's edition
+unfoldable pub editionOf : List ℕ → ℕ
+editionOf s = getD s 8 0
+
 -- the result type of function f, whose record is record 1 + f
 unfoldable pub resultOf : List ℕ → ℕ → ℕ
 resultOf s f = getD s (12 * (1 + f) + 2) 0

@@ -1,4 +1,4 @@
--- The numbers of document 01's file: marks, the most functions, nodes, parameters and variables, and the longest file.
+-- The numbers of the procedure file: marks, the last edition, the most functions, nodes, parameters and variables, and the longest file.
 use Prim.Native.Nat.{ℕ}
 
 -- "PR", "FN" and "ND" as numbers of two bytes
@@ -17,6 +17,10 @@ mostFunctions = 128
 
 abbrev pub mostNodes : ℕ
 mostNodes = 4096
+
+-- the last edition that there is
+abbrev pub lastEdition : ℕ
+lastEdition = 1
 
 -- the most parameters and variables of a function
 abbrev pub mostParameters : ℕ

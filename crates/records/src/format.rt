@@ -18,6 +18,9 @@ pub const MOST_FUNCTIONS: usize = 128;
 // The most nodes of a file.
 pub const MOST_NODES: usize = 4096;
 
+// The last edition that there is.
+pub const LAST_EDITION: u32 = 1;
+
 // The most parameters of a function.
 pub const MOST_PARAMETERS: u8 = 8;
 

@@ -8,7 +8,7 @@ ghost use Prim.Native.Nat.{ℕ, _+_, _*_, _-_, _^_, _≤_, _<_};
 ghost use lib.Dec.{ltb};
 ghost use lib.ListN.{length};
 ghost use Rattle.records.specs.Bytes.{u16At, u32At};
-ghost use Rattle.records.specs.Fields.{markAt, functions, nodes, resultOf, paramsOf, varsOf, maskOf, countOf};
+ghost use Rattle.records.specs.Fields.{markAt, functions, nodes, editionOf, resultOf, paramsOf, varsOf, maskOf, countOf};
 ghost use Rattle.records.specs.Search.{shift, orElse};
 
 // The place and the item that a search finds.
@@ -90,6 +90,14 @@ pub fn node_count(file: &[u8]) -> usize
     ensures { λ r. ⌜ (r ≡ nodes (now (file .entry))) × (r < 4294967296) ⌝ }
 {
     u32_at(file, 4) as usize
+}
+
+// The header's edition.
+pub fn edition_of(file: &[u8]) -> u8
+    requires { ⌜ 12 ≤ length (now file) ⌝ }
+    ensures { λ r. ⌜ r ≡ editionOf (now (file .entry)) ⌝ }
+{
+    file[8]
 }
 
 // The result type of function f.

@@ -17,9 +17,11 @@ within lo hi k = leb lo k && leb k hi
 unfoldable pub lengthOk : List ℕ → Bool
 lengthOk s = eqb (length s % 12) 0 && leb 36 (length s)
 
--- 2: "PR", F from 1 to 128, N from 1 to 4,096, four zero bytes
+-- 2: "PR", F from 1 to 128, N from 1 to 4,096, edition 0 or 1, three zero bytes
 unfoldable pub headerOk : List ℕ → Bool
-headerOk s = eqb (markAt s 0) headerMark && (within 1 mostFunctions (functions s) && (within 1 mostNodes (nodes s) && eqb (u32At s 8) 0))
+headerOk s =
+    eqb (markAt s 0) headerMark && (within 1 mostFunctions (functions s) && (within 1 mostNodes (nodes s)
+    && (leb (editionOf s) lastEdition && (eqb (getD s 9 0) 0 && eqb (u16At s 10) 0))))
 
 -- 3: is the length 12 × (1+F+N)?
 unfoldable pub recordsOk : List ℕ → Bool

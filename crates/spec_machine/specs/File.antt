@@ -139,11 +139,11 @@ funOf s f =
       body = refAt t (n - 1);
     }
 
--- the program of the file s; its edition is byte 8 of the header
+-- the program of the file s
 unfoldable pub programOf : List ℕ → Program
 programOf s =
     record {
-      edition = getD s 8 0;
+      edition = editionOf s;
       funs = functions s;
       fun = funOf s;
       nodes = countOf s;

@@ -19,8 +19,14 @@ quot-requires c κs = search needs
 rem-requires : tie.Need-rem-requires
 rem-requires c κs = search needs
 
+edition-of-requires : tie.Need-edition-of-requires
+edition-of-requires c κs = search needs
+
 shl-requires : tie.Need-shl-requires
 shl-requires c κs = search needs
+
+edition-of-requires-2 : tie.Need-edition-of-requires-2
+edition-of-requires-2 c κs = search needs
 
 shr-requires : tie.Need-shr-requires
 shr-requires c κs = search needs
@@ -59,11 +65,11 @@ returns-5 c = rw (c .before .match .keys5, c .rem .ensures)
 
 returns-6 : tie.Need-returns-6
 unfolding applied results
-returns-6 c = rw (c .before .match .keys6, c .shl .ensures)
+returns-6 c = rw (c .before .before .match .keys6, c .shl .ensures, c .before .edition-of .ensures)
 
 returns-7 : tie.Need-returns-7
 unfolding applied results
-returns-7 c = rw (c .before .match .keys7, c .shr .ensures)
+returns-7 c = rw (c .before .before .match .keys7, c .shr .ensures, c .before .edition-of2 .ensures)
 
 returns-8 : tie.Need-returns-8
 unfolding applied results andOf
@@ -105,4 +111,4 @@ returns-17 : tie.Need-returns-17
 returns-17 c = no-operator _ _ _ _ (c .match .rest)
 
 pub apply-spec : {M : Type 1} → statement M
-apply-spec = tie.close (tie.spec add-requires sub-requires mul-requires quot-requires rem-requires shl-requires shr-requires lt-requires le-requires lt-requires-2 le-requires-2 returns returns-2 returns-3 returns-4 returns-5 returns-6 returns-7 returns-8 returns-9 returns-10 returns-11 returns-12 returns-13 returns-14 returns-15 returns-16 returns-17)
+apply-spec = tie.close (tie.spec add-requires sub-requires mul-requires quot-requires rem-requires edition-of-requires shl-requires edition-of-requires-2 shr-requires lt-requires le-requires lt-requires-2 le-requires-2 returns returns-2 returns-3 returns-4 returns-5 returns-6 returns-7 returns-8 returns-9 returns-10 returns-11 returns-12 returns-13 returns-14 returns-15 returns-16 returns-17)
