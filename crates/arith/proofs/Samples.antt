@@ -16,15 +16,15 @@ pub data Sample : Type 0 where
   sample : ℕ → ℤ → ℤ → Applied → Sample
   apart : ℕ → ℤ → ℤ → Applied → Applied → Sample
 
-abbrev minus : ℕ → ℤ
+abbrev pub minus : ℕ → ℤ
 minus n = negℤ (pos n)
 
 -- −2^31
-abbrev least : ℤ
+abbrev pub least : ℤ
 least = minus 2147483648
 
 -- 2^31 − 1
-abbrev greatest : ℤ
+abbrev pub greatest : ℤ
 greatest = pos 2147483647
 
 abbrev is : ℤ → Applied

@@ -1,6 +1,7 @@
 // Questions 2, 3, 5 and 6: the header, the file's length, the part counts and main.
 use records::count_of;
 use records::format::HEADER_MARK;
+use records::format::LAST_EDITION;
 use records::format::MOST_FUNCTIONS;
 use records::format::MOST_NODES;
 use records::function_count;
@@ -25,10 +26,10 @@ pub fn header_ok(file: &[u8]) -> bool
 {
     let functions = function_count(file);
     let nodes = node_count(file);
-    let zeros = u32_at(file, 8);
+    let ending = u32_at(file, 8);
     (mark_at(file, 0) == HEADER_MARK)
         & (((1 <= functions) & (functions <= MOST_FUNCTIONS))
-            & (((1 <= nodes) & (nodes <= MOST_NODES)) & (zeros == 0)))
+            & (((1 <= nodes) & (nodes <= MOST_NODES)) & (ending <= LAST_EDITION)))
 }
 
 // Whether the file has as many records as its header says.

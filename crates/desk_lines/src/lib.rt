@@ -4,6 +4,7 @@ pub mod objects;
 pub mod strings;
 
 use check_file::Refusal;
+use records::edition_of;
 use records::function_count;
 use texts::put;
 use texts::put_numbered;
@@ -32,6 +33,18 @@ fn put_functions(file: &[u8], out: &mut [u8], at: usize) -> usize {
     next
 }
 
+// Puts the edition of a file, where it is not edition 0.
+fn put_edition(file: &[u8], out: &mut [u8], at: usize) -> usize {
+    if file.len() < 12 {
+        return at;
+    }
+    let edition = edition_of(file);
+    if edition == 0 {
+        return at;
+    }
+    put_numbered(out, at, b", edition ", edition as u64)
+}
+
 // Puts what is said of a file that passes.
 pub fn put_passed(
     style: Style,
@@ -50,12 +63,14 @@ pub fn put_passed(
         return objects::put_passed(name, file, revision, out, at);
     }
     let a = put(out, at, name);
-    let b = put(out, a, b": passed\n");
+    let b = put(out, a, b": passed");
+    let c = put_edition(file, out, b);
+    let d = put(out, c, b"\n");
     if style.show {
-        let c = put_functions(file, out, b);
-        return put(out, c, b"");
+        let e = put_functions(file, out, d);
+        return put(out, e, b"");
     }
-    b
+    d
 }
 
 // Puts a refusal's numbers and its sentence after the name.

@@ -3,6 +3,7 @@ use crate::strings::put_hex;
 use crate::strings::put_string;
 use check_file::Refusal;
 use desk_places::Place;
+use records::edition_of;
 use records::format::LONGEST_FILE;
 use records::nodes::b_at;
 use texts::put;
@@ -122,6 +123,14 @@ fn put_bytes(bytes: &[u8], out: &mut [u8], at: usize) -> usize {
     next
 }
 
+// The edition of a file, if its header is right.
+fn edition_field(file: &[u8], right: bool) -> Field {
+    if !right | (file.len() < 12) {
+        return Field::Null;
+    }
+    Field::Number(edition_of(file) as u64)
+}
+
 // Puts the digest of a file that was read to its end, and null for a longer one.
 fn put_digest(file: &[u8], out: &mut [u8], at: usize) -> usize {
     if LONGEST_FILE < file.len() {
@@ -149,8 +158,9 @@ pub fn put_passed(name: &[u8], file: &[u8], revision: &[u8], out: &mut [u8], at:
     let a = put_begun(name, b"passed", out, at);
     let b = put_no_numbers(out, a);
     let c = put(out, b, b",\"sentence\":null");
-    let d = put_digest(file, out, c);
-    put_ended(revision, out, d)
+    let d = put_field(b",\"edition\":", edition_field(file, true), out, c);
+    let e = put_digest(file, out, d);
+    put_ended(revision, out, e)
 }
 
 // Puts the object of a file that is refused.
@@ -176,8 +186,10 @@ pub fn put_refused(
         c,
     );
     let e = put(out, d, b"\"");
-    let f = put_digest(file, out, e);
-    put_ended(revision, out, f)
+    let right = 2 < refusal.question;
+    let f = put_field(b",\"edition\":", edition_field(file, right), out, e);
+    let g = put_digest(file, out, f);
+    put_ended(revision, out, g)
 }
 
 // Puts the object of a file that cannot be read.
@@ -188,6 +200,6 @@ pub fn put_unread(name: &[u8], error: i32, revision: &[u8], out: &mut [u8], at: 
     let b = put_no_numbers(out, a);
     let c = put(out, b, b",\"sentence\":\"cannot be read: ");
     let d = desk_files::put_error(out, c, error);
-    let e = put(out, d, b"\",\"sha256\":null");
+    let e = put(out, d, b"\",\"edition\":null,\"sha256\":null");
     put_ended(revision, out, e)
 }

@@ -4,12 +4,14 @@ mod ways;
 use desk_faults::FunctionFault;
 use desk_faults::NodeFault;
 use desk_places::Place;
+use records::edition_of;
 use records::function_count;
 use records::mark_at;
 use records::node_count;
 use records::nodes::a_at;
 use records::nodes::b_at;
 use records::nodes::size_at;
+use records::wide;
 use texts::kinds::put_kind;
 use texts::put;
 use texts::put_numbered;
@@ -60,7 +62,16 @@ fn put_header(file: &[u8], out: &mut [u8], at: usize) -> usize
         let next = put_numbered(out, at, b"the header counts ", nodes as u64);
         return put(out, next, b" nodes, and a procedure has 1 to 4,096");
     }
-    put(out, at, b"the last four bytes of the header are not zero")
+    let edition = wide(edition_of(file));
+    if records::format::LAST_EDITION < edition {
+        let next = put_numbered(out, at, b"the header says edition ", edition as u64);
+        return put(out, next, b", and this desk knows editions 0 and 1");
+    }
+    put(
+        out,
+        at,
+        b"the last three bytes of the header, after its edition, are not zero",
+    )
 }
 
 // Puts how the length misses the header's counts.

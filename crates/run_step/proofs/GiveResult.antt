@@ -5,7 +5,7 @@ use mathlib.Core.List.{List, [], _∷_, _++_}
 use Prim.Native.Nat.{ℕ, suc, _+_, _≤_, _<_}
 use native.Mathlib.Omega.{arith}
 use lib.ListN.{length, getD, set}
-use Rattle.records.specs.Fields.{paramsOf, varsOf}
+use Rattle.records.specs.Fields.{editionOf, paramsOf, varsOf}
 use Rattle.records.specs.Parts.{partOf}
 use Rattle.spec_language.specs.Check.{accepted, checkOf}
 use Rattle.spec_machine.specs.Values.{Value, int, truth, result}
@@ -24,7 +24,7 @@ use Rattle.run_step.proofs.GiveShapes.{ints, arguments, waits, assigned
 use Rattle.run_step.proofs.GiveNeeds.{shaped, empty}
 
 gives-operator : (s : List ℕ) (r : Stepped) (l m R : List ℕ) (f : ℕ) (η : List Value) (fr : Frame) (K : List Frame) (A : List Saved) (v : Value) (o a b : ℕ)
-    → fr ≡ gather (op o) (int a ∷ []) [] → v ≡ int b → StepsBy s r l m R (settle emptyEnv f η K A (result (getD s 8 0) o a b))
+    → fr ≡ gather (op o) (int a ∷ []) [] → v ≡ int b → StepsBy s r l m R (settle emptyEnv f η K A (result (editionOf s) o a b))
     → StepsBy s r l m R (give (programOf s) v emptyEnv f η (fr ∷ K) A)
 unfolding programOf
 gives-operator s r l m R f η fr K A v o a b w i d = rw (w, i) d
@@ -39,7 +39,7 @@ module _ (s : List ℕ) (r : Stepped) (h : code.Registers) (l m R : List ℕ) (f
   module _ (y z : ℕ) where
     pub give-operator : (o : ℕ) → Gathers fr (op o) y z → z ≡ 0
         → ((a b : ℕ) → l ≡ core f η (gather (op o) (int a ∷ []) [] ∷ K) A ++ R → Describes s h f (gather (op o) (int a ∷ []) [] ∷ K) A → v ≡ int b
-        → StepsBy s r l m R (settle emptyEnv f η K A (result (getD s 8 0) o a b))) → GiveSteps
+        → StepsBy s r l m R (settle emptyEnv f η K A (result (editionOf s) o a b))) → GiveSteps
     unfolding programOf
     give-operator o g e q =
         let n = empty (g .nodes) z (g .waits) e in

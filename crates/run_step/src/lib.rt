@@ -23,7 +23,7 @@ ghost use mathlib.Core.List.{List, [], _∷_, _++_};
 ghost use Prim.Native.Nat.{ℕ, suc, _+_, _*_, _-_, _≤_, _<_};
 ghost use lib.ListN.{length, getD};
 ghost use Rattle.spec_image.specs.Sizes.{callerRoom, frameSize, frameRoom, framesAt, size, slotsFrom, slotRoom};
-ghost use Rattle.records.specs.Fields.{paramsOf, kindAt, aAt, bAt};
+ghost use Rattle.records.specs.Fields.{editionOf, paramsOf, kindAt, aAt, bAt};
 ghost use Rattle.records.specs.Parts.{partOf};
 ghost use Rattle.spec_language.specs.Check.{accepted, checkOf};
 ghost use Rattle.spec_machine.specs.Values as values;
@@ -70,9 +70,9 @@ fn raise(m: &mut [u32], exception: Stepped) -> Stepped
 
 // Applies operator o to the operand in the top frame and the one at hand.
 fn operate(file: &[u8], m: &mut [u32], h: Registers, o: u32, v: Value) -> Stepped
-    requires { ⌜ Bounds h (now m) × (1 ≤ h .frames) × (o < 16) × (9 ≤ length (now file)) ⌝ }
+    requires { ⌜ Bounds h (now m) × (1 ≤ h .frames) × (o < 16) × (12 ≤ length (now file)) ⌝ }
     requires ints { ⌜ IsInt v × (getD (now m) (framesAt + (h .under + (h .frames - 1)) * frameSize + (slotsFrom + 0 * 2)) 0 ≡ 1) ⌝ }
-    ensures { λ r. ⌜ ((f : ℕ) (η : List values.Value) (a b : ℕ) (K : List Frame) (A : List Saved) (R : List ℕ) → now (m .entry) ≡ core f η (machine.gather (program.op o) (values.int a ∷ []) [] ∷ K) A ++ R → Describes (now (file .entry)) h f (machine.gather (program.op o) (values.int a ∷ []) [] ∷ K) A → valueIs v ≡ values.int b → StepsBy (now (file .entry)) r (now (m .entry)) (now (m .exit)) R (next.settle emptyEnv f η K A (values.result (getD (now (file .entry)) 8 0) o a b))) ⌝ }
+    ensures { λ r. ⌜ ((f : ℕ) (η : List values.Value) (a b : ℕ) (K : List Frame) (A : List Saved) (R : List ℕ) → now (m .entry) ≡ core f η (machine.gather (program.op o) (values.int a ∷ []) [] ∷ K) A ++ R → Describes (now (file .entry)) h f (machine.gather (program.op o) (values.int a ∷ []) [] ∷ K) A → valueIs v ≡ values.int b → StepsBy (now (file .entry)) r (now (m .entry)) (now (m .exit)) R (next.settle emptyEnv f η K A (values.result (editionOf (now (file .entry))) o a b))) ⌝ }
 {
     let Value::Int(b) = v else {
         return unreachable();
@@ -81,7 +81,7 @@ fn operate(file: &[u8], m: &mut [u32], h: Registers, o: u32, v: Value) -> Steppe
     let Value::Int(a) = state_words::frames::slot_value(m, h.under + frames, 0) else {
         return unreachable();
     };
-    match arith::apply(file[8], o as u8, a, b) {
+    match arith::apply(file, o as u8, a, b) {
         Applied::Int(word) => run_rules::take_off(m, h, Control::Int(word)),
         Applied::Truth(truth) => run_rules::take_off(m, h, Control::Truth(truth)),
         Applied::Arith => raise(m, Stepped::Arith),

@@ -7,7 +7,7 @@ use lib.ListN.{length, take, drop, replicate}
 use Rattle.varset.specs.Lowest.{lowest}
 use Rattle.varset.specs.Sets.{has, none, with, without, both, either, less, below}
 use Rattle.records.specs.Bytes.{u16At, u32At}
-use Rattle.records.specs.Fields.{markAt, functions, nodes, resultOf, paramsOf, varsOf, maskOf, countOf, kindAt, aAt, bAt, sizeAt}
+use Rattle.records.specs.Fields.{markAt, functions, nodes, editionOf, resultOf, paramsOf, varsOf, maskOf, countOf, kindAt, aAt, bAt, sizeAt}
 use Rattle.records.specs.Parts.{sumOf, startOf, partOf}
 use Rattle.records.specs.Search.{firstOf, shift, orElse, firstIn, unless}
 use Rattle.records.specs.Children.{arities, arityOf, arityAt, walk, children}
@@ -61,7 +61,7 @@ abbrev along : List State
 along = main emptyEnv ∷ body ∷ looping ∷ first ∷ second ∷ inside ∷ summing ∷ returned emptyEnv 3 ∷ State.value 3 ∷ []
 
 on-the-run : map ran (0 ∷ 1 ∷ 14 ∷ 33 ∷ 36 ∷ 43 ∷ 53 ∷ 55 ∷ 56 ∷ []) ≡ along
-unfolding lowest has none with without both either less below u16At u32At markAt functions nodes resultOf paramsOf varsOf maskOf countOf kindAt aAt bAt sizeAt sumOf startOf partOf firstOf shift orElse firstIn unless arities arityOf arityAt walk children prior last shapes shapeAt readsFrom readsOf grow statementIn statementAt declaresAt declCount declOf under usesVariable paramType varType operatorType typesOf typeAt condition wantsOf wantAt suits agree ints.int ints.wrap operators.addOf operators.subOf operators.mulOf operators.quotOf operators.remOf operators.shlOf operators.shrOf operators.andOf operators.orOf operators.xorOf operators.ltOf operators.leOf operators.gtOf operators.geOf operators.eqOf operators.neOf operators.noQuotient operators.divided operators.shifted operators.results operators.applied backwards kids andForm looks lookAt refAt formOf formAt ifForm seqForm seeAt unrolled looped stmtAt typesFrom funOf programOf result runOf
+unfolding lowest has none with without both either less below u16At u32At markAt functions nodes editionOf resultOf paramsOf varsOf maskOf countOf kindAt aAt bAt sizeAt sumOf startOf partOf firstOf shift orElse firstIn unless arities arityOf arityAt walk children prior last shapes shapeAt readsFrom readsOf grow statementIn statementAt declaresAt declCount declOf under usesVariable paramType varType operatorType typesOf typeAt condition wantsOf wantAt suits agree ints.int ints.wrap operators.addOf operators.subOf operators.mulOf operators.quotOf operators.remOf operators.shlOf operators.shrOf operators.andOf operators.orOf operators.xorOf operators.ltOf operators.leOf operators.gtOf operators.geOf operators.eqOf operators.neOf operators.noQuotient operators.divided operators.noShift operators.shifted operators.results operators.applied backwards kids andForm looks lookAt refAt formOf formAt ifForm seqForm seeAt unrolled looped stmtAt typesFrom funOf programOf result runOf
 on-the-run = refl
 
 abbrev finals : List State

@@ -5,7 +5,7 @@ use Prim.Native.Nat.{ℕ, _+_}
 use Rattle.varset.specs.Lowest.{lowest}
 use Rattle.varset.specs.Sets.{has, none, with, without, both, either, less, below}
 use Rattle.records.specs.Bytes.{u16At, u32At}
-use Rattle.records.specs.Fields.{markAt, functions, nodes, resultOf, paramsOf, varsOf, maskOf, countOf, kindAt, aAt, bAt, sizeAt}
+use Rattle.records.specs.Fields.{markAt, functions, nodes, editionOf, resultOf, paramsOf, varsOf, maskOf, countOf, kindAt, aAt, bAt, sizeAt}
 use Rattle.records.specs.Parts.{sumOf, startOf, partOf}
 use Rattle.records.specs.Search.{firstOf, shift, orElse, firstIn, unless}
 use Rattle.records.specs.Build.{header, function, node, alone}
@@ -29,6 +29,10 @@ fileOf (row s v) = s
 abbrev verdictOf : Row → Verdict
 verdictOf (row s v) = v
 
+-- return(0), its header with these last four bytes
+abbrev ending : ℕ → ℕ → ℕ → ℕ → List ℕ
+ending a b c d = 80 ∷ 82 ∷ 1 ∷ 0 ∷ 2 ∷ 0 ∷ 0 ∷ 0 ∷ a ∷ b ∷ c ∷ d ∷ (function 1 0 0 0 2 ++ (node 0 0 0 1 ++ node 12 0 0 2))
+
 abbrev rows : List Row
 rows =
     -- no byte
@@ -37,8 +41,19 @@ rows =
     -- a right header alone
     row (header 1 1) (refused 1 0 0)
     ∷
-    -- a header with a stray byte
-    row (80 ∷ 82 ∷ 1 ∷ 0 ∷ 1 ∷ 0 ∷ 0 ∷ 0 ∷ 0 ∷ 0 ∷ 0 ∷ 1 ∷ (function 1 0 0 0 1 ++ node 6 0 0 1)) (refused 2 0 0)
+    -- edition 1
+    row (ending 1 0 0 0) accepted
+    ∷
+    -- editions 2, 3 and 255
+    row (ending 2 0 0 0) (refused 2 0 0)
+    ∷ row (ending 3 0 0 0) (refused 2 0 0)
+    ∷ row (ending 255 0 0 0) (refused 2 0 0)
+    ∷
+    -- an edition and a stray byte
+    row (ending 0 1 0 0) (refused 2 0 0)
+    ∷ row (ending 1 1 0 0) (refused 2 0 0)
+    ∷ row (ending 0 0 128 0) (refused 2 0 0)
+    ∷ row (ending 1 0 0 1) (refused 2 0 0)
     ∷
     -- a record too many
     row (alone 0 2 (node 0 0 0 1 ++ node 12 0 0 2 ++ node 6 0 0 1)) (refused 3 0 0)
@@ -169,5 +184,5 @@ early =
 
 -- all rows
 worked : map (λ r. checkOf (fileOf r)) (rows ++ early) ≡ map verdictOf (rows ++ early)
-unfolding lowest has none with without both either less below u16At u32At markAt functions nodes resultOf paramsOf varsOf maskOf countOf kindAt aAt bAt sizeAt sumOf startOf partOf firstOf shift orElse firstIn unless arities arityOf arityAt walk children differ isExpression wantsExpression wrongSort prior last shapes shapeAt readsFrom readsOf grow statementIn statementAt declares leaves missing lacks returns declaresAt declCount declOf under usesVariable paramType varType operatorType typesOf typeAt condition wantsOf wantAt suits agree within lengthOk headerOk recordsOk functionOk sumOk mainOk fields fieldsOk nodeOk total sizeOk wrongChild some misplaced undeclared firstUndeclared outside mistyped answers originOf inPart partQuestions questions refuse firstRefusal checkOf
+unfolding lowest has none with without both either less below u16At u32At markAt functions nodes editionOf resultOf paramsOf varsOf maskOf countOf kindAt aAt bAt sizeAt sumOf startOf partOf firstOf shift orElse firstIn unless arities arityOf arityAt walk children differ isExpression wantsExpression wrongSort prior last shapes shapeAt readsFrom readsOf grow statementIn statementAt declares leaves missing lacks returns declaresAt declCount declOf under usesVariable paramType varType operatorType typesOf typeAt condition wantsOf wantAt suits agree within lengthOk headerOk recordsOk functionOk sumOk mainOk fields fieldsOk nodeOk total sizeOk wrongChild some misplaced undeclared firstUndeclared outside mistyped answers originOf inPart partQuestions questions refuse firstRefusal checkOf
 worked = refl

@@ -3,11 +3,11 @@ use mathlib.Core.Bool.{Bool, _&&_}
 use mathlib.Core.List.{List}
 use Prim.Native.Nat.{ℕ, _+_, _*_, _%_, _^_}
 use lib.Dec.{eqb, leb, ltb}
-use lib.ListN.{length}
-use Rattle.records.specs.Bytes.{u16At, u32At}
-use Rattle.records.specs.Fields.{markAt, functions, nodes, resultOf, paramsOf, varsOf, maskOf, countOf}
+use lib.ListN.{length, getD}
+use Rattle.records.specs.Bytes.{u16At}
+use Rattle.records.specs.Fields.{markAt, functions, nodes, editionOf, resultOf, paramsOf, varsOf, maskOf, countOf}
 use Rattle.records.specs.Parts.{sumOf}
-use Rattle.records.specs.Format.{headerMark, functionMark, mostFunctions, mostNodes, mostParameters, mostVariables}
+use Rattle.records.specs.Format.{headerMark, functionMark, mostFunctions, mostNodes, lastEdition, mostParameters, mostVariables}
 
 -- lo to hi
 unfoldable pub within : ℕ → ℕ → ℕ → Bool

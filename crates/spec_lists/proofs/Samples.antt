@@ -12,10 +12,10 @@ use Rattle.varset.specs.Lowest.{lowest}
 use Rattle.varset.specs.Sets as sets
 use Rattle.varset.specs.Sets.{without, both, either, less, below}
 use Rattle.records.specs.Bytes.{u16At, u32At}
-use Rattle.records.specs.Fields.{markAt, functions, nodes, resultOf, paramsOf, varsOf, maskOf, countOf, kindAt, aAt, bAt, sizeAt}
+use Rattle.records.specs.Fields.{markAt, functions, nodes, editionOf, resultOf, paramsOf, varsOf, maskOf, countOf, kindAt, aAt, bAt, sizeAt}
 use Rattle.records.specs.Parts.{sumOf, startOf, partOf}
 use Rattle.records.specs.Search.{firstOf, shift, orElse, firstIn, unless}
-use Rattle.records.specs.Build.{alone}
+use Rattle.records.specs.Build.{aloneIn, alone}
 use Rattle.records.specs.Build as build
 use Rattle.records.specs.Children.{arities, arityOf, arityAt, walk, children}
 use Rattle.spec_language.specs.Statements.{prior, last, shapes, shapeAt, readsFrom, readsOf, grow, statementIn, statementAt}
@@ -32,8 +32,9 @@ use Rattle.arith.specs.Int as ints
 use Rattle.arith.specs.Operators as operators
 use Rattle.spec_machine.specs.Values.{int, result}
 use Rattle.spec_machine.specs.Program.{Ref, node}
+use Rattle.spec_machine.specs.Machine as machine
 use Rattle.spec_machine.specs.Machine.{wait, exec, emptyEnv, State, main, running}
-use Rattle.spec_machine.specs.Run.{Outcome, Spent, runOf}
+use Rattle.spec_machine.specs.Run.{Outcome, raised, Spent, runOf}
 use Rattle.spec_machine.specs.File.{backwards, kids, andForm, looks, lookAt, refAt, formOf, formAt, ifForm, seqForm, seeAt, unrolled, looped, stmtAt, typesFrom, funOf, programOf}
 use Rattle.spec_image.specs.Layout.{filled, bit, valueWords, valuesWords, nodesWords, refWord, block, gathering, frameWords, controlWords, activationWords}
 use Rattle.spec_image.specs.Image.{savedActivations, savedFrames, headWords, activationsOf, framesOf, image}
@@ -66,8 +67,30 @@ sample-list : (startAnswer file dirty ≡ accepted)
     × (memoryAnswer file dirty ≡ refused 16 0 0)
     × (memoryAnswer file (runMemory file begun 5) ≡ accepted)
     × (startAnswer file (runMemory file begun 5) ≡ accepted)
-unfolding lowest sets.has sets.none sets.with without both either less below u16At u32At markAt functions nodes resultOf paramsOf varsOf maskOf countOf kindAt aAt bAt sizeAt sumOf startOf partOf firstOf shift orElse firstIn unless arities arityOf arityAt walk children differ isExpression wantsExpression wrongSort prior last shapes shapeAt readsFrom readsOf grow statementIn statementAt declares leaves missing lacks returns declaresAt declCount declOf under usesVariable paramType varType operatorType typesOf typeAt condition wantsOf wantAt suits agree records.within lengthOk headerOk recordsOk functionOk sumOk mainOk nodes.fields fieldsOk nodeOk nodes.total sizeOk wrongChild nodes.some misplaced undeclared firstUndeclared outside mistyped answers originOf inPart partQuestions questions refuse firstRefusal checkOf ints.int ints.wrap operators.addOf operators.subOf operators.mulOf operators.quotOf operators.remOf operators.shlOf operators.shrOf operators.andOf operators.orOf operators.xorOf operators.ltOf operators.leOf operators.gtOf operators.geOf operators.eqOf operators.neOf operators.noQuotient operators.divided operators.shifted operators.results operators.applied backwards kids andForm looks lookAt refAt formOf formAt ifForm seqForm seeAt unrolled looped stmtAt typesFrom funOf programOf result runOf filled bit valueWords valuesWords nodesWords refWord block gathering frameWords controlWords activationWords savedActivations savedFrames headWords activationsOf framesOf image valueOf valuesOf nodesOf refOf operands frames frameOf controlOf activationOf framesHeld callersOf runningOf activationsIn framesIn states stateOf fitWords roomFor imageIn variableIn startAnswer memoryAnswer lookVerdict byVerdict written startMemory runFrom runAnswer runMemory lookAnswer
+unfolding lowest sets.has sets.none sets.with without both either less below u16At u32At markAt functions nodes editionOf resultOf paramsOf varsOf maskOf countOf kindAt aAt bAt sizeAt sumOf startOf partOf firstOf shift orElse firstIn unless arities arityOf arityAt walk children differ isExpression wantsExpression wrongSort prior last shapes shapeAt readsFrom readsOf grow statementIn statementAt declares leaves missing lacks returns declaresAt declCount declOf under usesVariable paramType varType operatorType typesOf typeAt condition wantsOf wantAt suits agree records.within lengthOk headerOk recordsOk functionOk sumOk mainOk nodes.fields fieldsOk nodeOk nodes.total sizeOk wrongChild nodes.some misplaced undeclared firstUndeclared outside mistyped answers originOf inPart partQuestions questions refuse firstRefusal checkOf ints.int ints.wrap operators.addOf operators.subOf operators.mulOf operators.quotOf operators.remOf operators.shlOf operators.shrOf operators.andOf operators.orOf operators.xorOf operators.ltOf operators.leOf operators.gtOf operators.geOf operators.eqOf operators.neOf operators.noQuotient operators.divided operators.noShift operators.shifted operators.results operators.applied backwards kids andForm looks lookAt refAt formOf formAt ifForm seqForm seeAt unrolled looped stmtAt typesFrom funOf programOf result runOf filled bit valueWords valuesWords nodesWords refWord block gathering frameWords controlWords activationWords savedActivations savedFrames headWords activationsOf framesOf image valueOf valuesOf nodesOf refOf operands frames frameOf controlOf activationOf framesHeld callersOf runningOf activationsIn framesIn states stateOf fitWords roomFor imageIn variableIn startAnswer memoryAnswer lookVerdict byVerdict written startMemory runFrom runAnswer runMemory lookAnswer
 sample-list = (refl, refl, refl, refl, refl, refl, refl, refl, refl, refl)
+
+-- decl#7(0, int, seq#6(assign#1(0, 32#0), return#5(1#2 <<#4 x0#3))) in an edition
+abbrev shifts : ℕ → List ℕ
+shifts edition =
+    aloneIn edition 1 8
+    (build.node 0 0 32 1 ++ build.node 8 0 0 2 ++ build.node 0 0 1 1 ++ build.node 2 0 0 1 ++ build.node 3 5 0 3 ++ build.node 12 0 0 4 ++ build.node 7 0 0 7 ++ build.node 9 1 0 8)
+
+-- the memory before its shift
+abbrev ready : List ℕ
+ready = runMemory (shifts 1) (startMemory (shifts 1) dirty) 10
+
+-- in edition 1 the shift by 32 raises arith, and the memory stays as fit as any; edition 0's file gives a value from the same memory; there is no edition 2
+edition-list : (startAnswer (shifts 1) dirty ≡ accepted)
+    × (lookAnswer (shifts 1) ready 0 ≡ granted (int 32))
+    × (memoryAnswer (shifts 1) ready ≡ accepted)
+    × (runAnswer (shifts 0) ready 9 ≡ granted (record { outcome = Outcome.value 1; steps = 3; state = State.value 1 }))
+    × (runAnswer (shifts 2) ready 9 ≡ denied 2 0 0)
+    × (runAnswer (shifts 1) ready 9 ≡ granted (record { outcome = raised machine.arith; steps = 1; state = State.exception machine.arith }))
+    × (memoryAnswer (shifts 1) (runMemory (shifts 1) ready 9) ≡ accepted)
+    × (lookAnswer (shifts 1) (runMemory (shifts 1) ready 9) 0 ≡ denied 17 0 0)
+unfolding lowest sets.has sets.none sets.with without both either less below u16At u32At markAt functions nodes editionOf resultOf paramsOf varsOf maskOf countOf kindAt aAt bAt sizeAt sumOf startOf partOf firstOf shift orElse firstIn unless arities arityOf arityAt walk children differ isExpression wantsExpression wrongSort prior last shapes shapeAt readsFrom readsOf grow statementIn statementAt declares leaves missing lacks returns declaresAt declCount declOf under usesVariable paramType varType operatorType typesOf typeAt condition wantsOf wantAt suits agree records.within lengthOk headerOk recordsOk functionOk sumOk mainOk nodes.fields fieldsOk nodeOk nodes.total sizeOk wrongChild nodes.some misplaced undeclared firstUndeclared outside mistyped answers originOf inPart partQuestions questions refuse firstRefusal checkOf ints.int ints.wrap operators.addOf operators.subOf operators.mulOf operators.quotOf operators.remOf operators.shlOf operators.shrOf operators.andOf operators.orOf operators.xorOf operators.ltOf operators.leOf operators.gtOf operators.geOf operators.eqOf operators.neOf operators.noQuotient operators.divided operators.noShift operators.shifted operators.results operators.applied backwards kids andForm looks lookAt refAt formOf formAt ifForm seqForm seeAt unrolled looped stmtAt typesFrom funOf programOf result runOf filled bit valueWords valuesWords nodesWords refWord block gathering frameWords controlWords activationWords savedActivations savedFrames headWords activationsOf framesOf image valueOf valuesOf nodesOf refOf operands frames frameOf controlOf activationOf framesHeld callersOf runningOf activationsIn framesIn states stateOf fitWords roomFor imageIn variableIn startAnswer memoryAnswer lookVerdict byVerdict written startMemory runFrom runAnswer runMemory lookAnswer
+edition-list = (refl, refl, refl, refl, refl, refl, refl, refl)
 
 -- whether all are bytes
 abbrev allBytes : List ℕ → Bool
@@ -81,6 +104,9 @@ small (b ∷ l) h (suc i) = small l (and-right (ltb b 256) _ h) i
 
 abbrev bytes : Given
 bytes = record { bytes = file; small = small file refl }
+
+abbrev shifting : Given
+shifting = record { bytes = shifts 1; small = small (shifts 1) refl }
 
 abbrev empty : Given
 empty = record { bytes = []; small = small [] refl }
@@ -97,3 +123,18 @@ calls =
 sample-story : StoryOf begun calls bytes (record { state = main emptyEnv; history = [] })
 unfolding unless lengthOk questions refuse firstRefusal memoryAnswer byVerdict runAnswer
 sample-story = whole-lists bytes (record { state = main emptyEnv; history = [] }) begun (by-start dirty (sample-list .0)) calls ((λ t. refl), ((λ t. refl), ((λ t. absurd t), ((λ t. refl), ((λ t. refl), tt)))))
+
+-- a run to the shift, a look-up, a run with no file, a run that raises arith and a memory check, on a file of edition 1: the same theorem
+abbrev edition-calls : List AnyCall
+edition-calls =
+    record { kind = CallKind.run; given = record { file = shifting; number = 10 } }
+    ∷ record { kind = CallKind.look; given = record { file = shifting; number = 0 } }
+    ∷ record { kind = CallKind.run; given = record { file = empty; number = 9 } }
+    ∷ record { kind = CallKind.run; given = record { file = shifting; number = 10 } }
+    ∷ record { kind = CallKind.memory; given = shifting } ∷ []
+
+edition-story : StoryOf (startMemory (shifts 1) dirty) edition-calls shifting (record { state = main emptyEnv; history = [] })
+unfolding unless lengthOk questions refuse firstRefusal memoryAnswer byVerdict runAnswer
+edition-story =
+    whole-lists shifting (record { state = main emptyEnv; history = [] }) (startMemory (shifts 1) dirty) (by-start dirty (edition-list .0)) edition-calls
+    ((λ t. refl), ((λ t. refl), ((λ t. absurd t), ((λ t. refl), ((λ t. refl), tt)))))

@@ -1,29 +1,19 @@
 -- What the operators give: words, and values of their types.
 use mathlib.Core.Path.{_≡_, refl, sym}
-use mathlib.Core.Bool.{Bool, true, false}
 use mathlib.Core.Option.{some}
 use Prim.Native.Nat.{ℕ, _-_, _^_, _<_}
 use native.Mathlib.Omega.{arith}
 use lib.Bits.{and-lt, or-lt, xor-lt}
 use lib.Dec.{ltb}
-use lib.IntN.{ℤ}
 use Rattle.varset.specs.Lowest.{pick}
-use Rattle.arith.specs.Int.{wrap}
 use Rattle.arith.proofs.WordInts.{wrap-below}
-use Rattle.arith.specs.Operators.{addOf, subOf, mulOf, quotOf, remOf, shlOf, shrOf, andOf, orOf, xorOf, noQuotient, divided, shifted, results, applied}
+use Rattle.arith.proofs.Gives.{divided-has, shifted-has}
+use Rattle.arith.specs.Operators.{addOf, subOf, mulOf, quotOf, remOf, shlOf, shrOf, andOf, orOf, xorOf, results, applied}
 use Rattle.arith.specs.declared.Applied.{Applied}
 use Rattle.arith.specs.declared.Applied.the-variants.{Int, Truth, Arith}
 use Rattle.spec_machine.specs.Values.{Value, int, truth, tInt, tBool, typeV, resultValue, result}
 use Rattle.spec_machine.specs.Fit.{IsWord}
 use Rattle.records.proofs.EntryTables.{each-at}
-
-divided-is : (Q : Applied → Type 0) (a b c : ℕ) → Q Arith → Q (Int c) → Q (divided a b c)
-unfolding divided
-divided-is Q a b c z h = go (noQuotient a b)
-  where
-    go : (t : Bool) → Q (pick t Arith (Int c))
-    go true = z
-    go false = h
 
 -- an int among the results is a word
 abbrev ResultWord : Applied → Type 0
@@ -37,22 +27,19 @@ ResultType o (Int c) = tInt ≡ pick (ltb o 10) tInt tBool
 ResultType o (Truth t) = tBool ≡ pick (ltb o 10) tInt tBool
 ResultType o Arith = Unit {0}
 
-divided-word : (a b : ℕ) (z : ℤ) → ResultWord (divided a b (wrap z))
-divided-word a b z = divided-is ResultWord a b (wrap z) tt (wrap-below z)
-
 applied-word : (e o a b : ℕ) → a < 2 ^ 32 → b < 2 ^ 32 → ResultWord (applied e o a b)
-unfolding addOf subOf mulOf quotOf remOf shlOf shrOf andOf orOf xorOf shifted results applied
+unfolding addOf subOf mulOf quotOf remOf shlOf shrOf andOf orOf xorOf results applied
 applied-word e o a b h k =
     each-at (λ o. ResultWord) (results e a b) Arith
-    (wrap-below _, (wrap-below _, (wrap-below _, (divided-word a b _, (divided-word a b _, (wrap-below _, (wrap-below _, (and-lt 32 a b h k, (or-lt 32 a b h k, (xor-lt 32 a b h k, (tt, (tt, (tt, (tt, (tt, (tt, tt))))))))))))))))
+    (wrap-below _, (wrap-below _, (wrap-below _, (divided-has ResultWord a b _ tt (wrap-below _), (divided-has ResultWord a b _ tt (wrap-below _), (shifted-has ResultWord e (shlOf a) b tt (λ n. wrap-below _), (shifted-has ResultWord e (shrOf a) b tt (λ n. wrap-below _), (and-lt 32 a b h k, (or-lt 32 a b h k, (xor-lt 32 a b h k, (tt, (tt, (tt, (tt, (tt, (tt, tt))))))))))))))))
     (λ o. tt)
     o
 
 applied-type : (e o a b : ℕ) → ResultType o (applied e o a b)
-unfolding shifted results applied
+unfolding results applied
 applied-type e o a b =
     each-at ResultType (results e a b) Arith
-    (refl, (refl, (refl, (divided-is (ResultType 3) a b _ tt refl, (divided-is (ResultType 4) a b _ tt refl, (refl, (refl, (refl, (refl, (refl, (refl, (refl, (refl, (refl, (refl, (refl, tt))))))))))))))))
+    (refl, (refl, (refl, (divided-has (ResultType 3) a b _ tt refl, (divided-has (ResultType 4) a b _ tt refl, (shifted-has (ResultType 5) e (shlOf a) b tt (λ n. refl), (shifted-has (ResultType 6) e (shrOf a) b tt (λ n. refl), (refl, (refl, (refl, (refl, (refl, (refl, (refl, (refl, (refl, tt))))))))))))))))
     (λ o. tt)
     o
 

@@ -4,7 +4,7 @@ use Prim.Native.Nat.{ℕ, zero, suc, _-_}
 use lib.Dec.{eqb}
 use lib.ListN.{getD}
 use Rattle.varset.specs.Lowest.{pick}
-use Rattle.records.specs.Fields.{functions, resultOf, paramsOf, varsOf, countOf, kindAt, aAt, bAt}
+use Rattle.records.specs.Fields.{functions, editionOf, resultOf, paramsOf, varsOf, countOf, kindAt, aAt, bAt}
 use Rattle.records.specs.Parts.{partOf}
 use Rattle.records.specs.Children.{children}
 use Rattle.spec_language.specs.Statements.{Shape, shapeAt, readsOf, statementAt, Statement, Nop, Seq, Assign, Decl, If, While, Return, Assert, Expr}

@@ -1,3 +1,6 @@
+use Rattle.records.specs.Format.{lastEdition}
+use Rattle.check_header.proofs.Editions.{ending-is}
+use native.Mathlib.Omega.{arith}
 use Rattle.spec_language.specs.Records.{headerOk, within}
 use borrow.Author.Needs.{needs}
 use Rattle.check_header.proofs.header_ok.Statement.{statement}
@@ -17,7 +20,7 @@ mark-at-requires c κs = search needs
 
 returns : tie.Need-returns
 unfolding headerOk within
-returns c = rw (c .before .before .before .function-count .ensures .0, c .before .before .node-count .ensures .0, c .before .u32-at .ensures, c .mark-at .ensures)
+returns c = rw (c .before .before .before .function-count .ensures .0, c .before .before .node-count .ensures .0, c .before .u32-at .ensures, ending-is _ lastEdition (omega arith), c .mark-at .ensures)
 
 pub header-ok-spec : {M : Type 1} → statement M
 header-ok-spec =

@@ -42,9 +42,6 @@ same-length c = search needs
 returns-2 : tie.Need-returns-2
 returns-2 c = search needs
 
-shared-slice-read-apply : tie.Need-shared-slice-read-apply
-shared-slice-read-apply c = search needs
-
 cast-apply : tie.Need-cast-apply
 cast-apply c = search needs
 
@@ -75,11 +72,11 @@ same-length-2 c = search needs
 returns-3 : tie.Need-returns-3
 unfolding slotAt valueIs controlIs
 returns-3 c f η a b K A R e t i =
-    let z = c .before .before .before .before .before .before .before .before .before .before .before .before .before .before .before .before .before .before .before .before .before in
+    let z = c .before .before .before .before .before .before .before .before .before .before .before .before .before .before .before .before .before .before .before .before in
     let u = counted-under t (z .args .h .frames - 1) (omega (arith, z .pre .0 .1)) in
     settled-int _ _ _ _ R f η K A _ _ a b _ _
-    (stored _ _ f η _ a K A R _ _ e (omega (arith, t .callers, z .pre .0 .0 .1)) u (c .before .before .before .before .before .before .before .before .before .before .before .before .slot-value .ensures) (c .before .before .before .before .before .before .before .before .before .before .a .given .1))
-    (hand _ _ b (c .before .before .before .before .before .before .before .before .before .before .before .before .before .before .before .before .before .v .given .1) i) _ (sym (c .before .before .before .before .before .before .before .apply .ensures) ∙ c .before .before .before .before .before .word .given .1) (c .before .before .take-off .ensures _ f η _ K A R e t)
+    (stored _ _ f η _ a K A R _ _ e (omega (arith, t .callers, z .pre .0 .0 .1)) u (c .before .before .before .before .before .before .before .before .before .before .before .slot-value .ensures) (c .before .before .before .before .before .before .before .before .before .a .given .1))
+    (hand _ _ b (c .before .before .before .before .before .before .before .before .before .before .before .before .before .before .before .before .v .given .1) i) _ (sym (c .before .before .before .before .before .before .before .apply .ensures) ∙ c .before .before .before .before .before .word .given .1) (c .before .before .take-off .ensures _ f η _ K A R e t)
 
 same-length-3 : tie.Need-same-length-3
 same-length-3 c = search needs
@@ -87,11 +84,11 @@ same-length-3 c = search needs
 returns-4 : tie.Need-returns-4
 unfolding slotAt valueIs controlIs
 returns-4 c f η a b K A R e t i =
-    let z = c .before .before .before .before .before .before .before .before .before .before .before .before .before .before .before .before .before .before .before .before .before in
+    let z = c .before .before .before .before .before .before .before .before .before .before .before .before .before .before .before .before .before .before .before .before in
     let u = counted-under t (z .args .h .frames - 1) (omega (arith, z .pre .0 .1)) in
     settled-truth _ _ _ _ R f η K A _ _ a b _ _
-    (stored _ _ f η _ a K A R _ _ e (omega (arith, t .callers, z .pre .0 .0 .1)) u (c .before .before .before .before .before .before .before .before .before .before .before .before .slot-value .ensures) (c .before .before .before .before .before .before .before .before .before .before .a .given .1))
-    (hand _ _ b (c .before .before .before .before .before .before .before .before .before .before .before .before .before .before .before .before .before .v .given .1) i) _ (sym (c .before .before .before .before .before .before .before .apply .ensures) ∙ c .before .before .before .before .before .truth .given .1) (c .before .before .take-off2 .ensures _ f η _ K A R e t)
+    (stored _ _ f η _ a K A R _ _ e (omega (arith, t .callers, z .pre .0 .0 .1)) u (c .before .before .before .before .before .before .before .before .before .before .before .slot-value .ensures) (c .before .before .before .before .before .before .before .before .before .a .given .1))
+    (hand _ _ b (c .before .before .before .before .before .before .before .before .before .before .before .before .before .before .before .before .v .given .1) i) _ (sym (c .before .before .before .before .before .before .before .apply .ensures) ∙ c .before .before .before .before .before .truth .given .1) (c .before .before .take-off2 .ensures _ f η _ K A R e t)
 
 same-length-4 : tie.Need-same-length-4
 same-length-4 c = search needs
@@ -99,11 +96,11 @@ same-length-4 c = search needs
 returns-5 : tie.Need-returns-5
 unfolding slotAt StepsTo
 returns-5 c f η a b K A R e t i =
-    let z = c .before .before .before .before .before .before .before .before .before .before .before .before .before .before .before .before .before .before .before .before in
+    let z = c .before .before .before .before .before .before .before .before .before .before .before .before .before .before .before .before .before .before .before in
     let u = counted-under t (z .args .h .frames - 1) (omega (arith, z .pre .0 .1)) in
     settled-arith _ _ _ _ R f η K A _ _ a b _ _
-    (stored _ _ f η _ a K A R _ _ e (omega (arith, t .callers, z .pre .0 .0 .1)) u (c .before .before .before .before .before .before .before .before .before .before .before .slot-value .ensures) (c .before .before .before .before .before .before .before .before .before .a .given .1))
-    (hand _ _ b (c .before .before .before .before .before .before .before .before .before .before .before .before .before .before .before .before .v .given .1) i) (sym (c .before .before .before .before .before .before .apply .ensures) ∙ c .before .before .before .before .enum-told .given .1)
+    (stored _ _ f η _ a K A R _ _ e (omega (arith, t .callers, z .pre .0 .0 .1)) u (c .before .before .before .before .before .before .before .before .before .before .slot-value .ensures) (c .before .before .before .before .before .before .before .before .a .given .1))
+    (hand _ _ b (c .before .before .before .before .before .before .before .before .before .before .before .before .before .before .before .v .given .1) i) (sym (c .before .before .before .before .before .before .apply .ensures) ∙ c .before .before .before .before .enum-told .given .1)
     (rw (c .before .before .raise .ensures .0) (refl, c .before .before .raise .ensures .1 f η _ A R e (omega (arith, t .callers, z .pre .0 .0 .1)) (omega (arith, z .pre .0 .0 .2, counted t))))
 
 pub operate-spec : {M : Type 1} → statement M
@@ -120,7 +117,6 @@ operate-spec =
     unreachable-requires-2
     same-length
     returns-2
-    shared-slice-read-apply
     cast-apply
     apply-requires
     enum-known-word
