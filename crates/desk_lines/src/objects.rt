@@ -125,10 +125,13 @@ fn put_bytes(bytes: &[u8], out: &mut [u8], at: usize) -> usize {
 
 // The edition of a file, if its header is right.
 fn edition_field(file: &[u8], right: bool) -> Field {
-    if !right | (file.len() < 12) {
+    if file.len() < 12 {
         return Field::Null;
     }
-    Field::Number(edition_of(file) as u64)
+    if right {
+        return Field::Number(edition_of(file) as u64);
+    }
+    Field::Null
 }
 
 // Puts the digest of a file that was read to its end, and null for a longer one.
@@ -140,6 +143,13 @@ fn put_digest(file: &[u8], out: &mut [u8], at: usize) -> usize {
     let a = put(out, at, b",\"sha256\":\"");
     let b = put_bytes(&digest, out, a);
     put(out, b, b"\"")
+}
+
+// Puts what is known of a file's content: the edition, if its header is right, and the digest.
+fn put_content(file: &[u8], right: bool, out: &mut [u8], at: usize) -> usize {
+    let edition = edition_field(file, right);
+    let a = put_field(b",\"edition\":", edition, out, at);
+    put_digest(file, out, a)
 }
 
 // Puts the end of an object: the revision of the desk.
@@ -158,9 +168,8 @@ pub fn put_passed(name: &[u8], file: &[u8], revision: &[u8], out: &mut [u8], at:
     let a = put_begun(name, b"passed", out, at);
     let b = put_no_numbers(out, a);
     let c = put(out, b, b",\"sentence\":null");
-    let d = put_field(b",\"edition\":", edition_field(file, true), out, c);
-    let e = put_digest(file, out, d);
-    put_ended(revision, out, e)
+    let d = put_content(file, true, out, c);
+    put_ended(revision, out, d)
 }
 
 // Puts the object of a file that is refused.
@@ -186,10 +195,8 @@ pub fn put_refused(
         c,
     );
     let e = put(out, d, b"\"");
-    let right = 2 < refusal.question;
-    let f = put_field(b",\"edition\":", edition_field(file, right), out, e);
-    let g = put_digest(file, out, f);
-    put_ended(revision, out, g)
+    let f = put_content(file, 2 < refusal.question, out, e);
+    put_ended(revision, out, f)
 }
 
 // Puts the object of a file that cannot be read.
