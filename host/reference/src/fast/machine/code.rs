@@ -6,8 +6,9 @@ use crate::image::{ACTIVATION, ACTIVATIONS, ACTIVATION_HEAD};
 /// A node's record.
 pub type Record = [u8; RECORD];
 
-/// The functions and nodes of an accepted file.
+/// The edition, the functions and the nodes of an accepted file.
 pub struct Code<'a> {
+    pub edition: u8,
     functions: &'a [Record],
     nodes: &'a [Record],
     /// The first node of each function.
@@ -29,7 +30,7 @@ impl<'a> Code<'a> {
         for (i, function) in functions.iter().enumerate() {
             first[i + 1] = first[i] + word(function, 8) as u16;
         }
-        Code { functions, nodes, first }
+        Code { edition: file[8], functions, nodes, first }
     }
 
     /// The number of functions.
