@@ -32,7 +32,6 @@ pub fn apply(edition: u8, op: u8, left: i32, right: i32) -> Option<Value> {
 fn places(edition: u8, count: i64) -> Option<i64> {
     match edition {
         0 => Some(count & 31),
-        _ if count < 0 || 31 < count => None,
-        _ => Some(count),
+        _ => (0..=31).contains(&count).then_some(count),
     }
 }
