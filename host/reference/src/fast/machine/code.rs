@@ -6,9 +6,10 @@ use crate::image::{ACTIVATION, ACTIVATIONS, ACTIVATION_HEAD};
 /// A node's record.
 pub type Record = [u8; RECORD];
 
-/// The edition, the functions and the nodes of an accepted file.
+/// The functions and nodes of an accepted file.
 pub struct Code<'a> {
-    pub edition: u8,
+    /// The bits that no shift count may have: in edition 1 all but the low five.
+    pub outside: u32,
     functions: &'a [Record],
     nodes: &'a [Record],
     /// The first node of each function.
@@ -30,7 +31,8 @@ impl<'a> Code<'a> {
         for (i, function) in functions.iter().enumerate() {
             first[i + 1] = first[i] + word(function, 8) as u16;
         }
-        Code { edition: file[8], functions, nodes, first }
+        let outside = if file[8] == 0 { 0 } else { !31 };
+        Code { outside, functions, nodes, first }
     }
 
     /// The number of functions.
