@@ -17,8 +17,10 @@ pub fn typical() -> File {
 pub fn print(name: &str) {
     println!("| check | functions | nodes | {name} ns/file | plain ns/file | ratio |");
     println!("|---|---:|---:|---:|---:|---:|");
+    let small = || main(0, ret(int(0)));
     let files = [
-        ("small: return 0", main(0, ret(int(0)))),
+        ("small: return 0", small()),
+        ("small: return 0, edition 1", small().with(|f| f.header.edition = 1)),
         ("typical", typical()),
         ("largest: 50,700 bytes", shapes::functions(4096)),
         ("largest in one function", shapes::decls(4096)),

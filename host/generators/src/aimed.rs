@@ -65,7 +65,10 @@ fn header(file: &mut File, rng: &mut Rng) {
         2 => file.header.functions = rng.between(129, 65535) as u16,
         3 => file.header.nodes = 0,
         4 => file.header.nodes = rng.edge_word().max(4097),
-        _ => file.header.zeros[rng.below(4)] ^= flip,
+        _ => match rng.below(4) {
+            0 => file.header.edition = rng.beside().between(2, 255) as u8,
+            at => file.header.zeros[at - 1] ^= flip,
+        },
     }
 }
 

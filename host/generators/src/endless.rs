@@ -7,7 +7,7 @@ use crate::tree::*;
 pub type Program = (&'static str, fn() -> File);
 
 /// The programs that are timed, by their names.
-pub const ALL: [Program; 10] = [
+pub const ALL: [Program; 12] = [
     ("counting", counting),
     ("arithmetic", arithmetic),
     ("conditions", conditions),
@@ -18,6 +18,8 @@ pub const ALL: [Program; 10] = [
     CALLS[4],
     CALLS[8],
     ("recursion", recursion),
+    ("shifts, edition 0", || shifts(0)),
+    ("shifts, edition 1", || shifts(1)),
 ];
 
 /// The calls by the number of their arguments.
@@ -79,4 +81,12 @@ fn recursion() -> File {
     let sum = ret(op(ADD, less(1), less(2)));
     let body = if_else(op(LT, var(0), int(2)), ret(var(0)), sum);
     repeated(assign(0, call(1, vec![int(12)])), &[taking(INT, 1, 0, 1, body)])
+}
+
+/// Shifts by constants and by a variable, with counts that both editions take.
+fn shifts(edition: u8) -> File {
+    let bit = op(SHR, op(SHL, int(1), op(AND, var(0), int(31))), int(3));
+    let rest = op(SHR, op(SHL, var(0), int(5)), int(2));
+    let turn = assign(0, op(ADD, op(XOR, bit, rest), int(1)));
+    repeated(turn, &[]).with(|f| f.header.edition = edition)
 }

@@ -10,7 +10,7 @@ pub type Late = (&'static str, fn(usize) -> Vec<u8>);
 /// One file for each question, in order, and one more for early returns.
 pub const ALL: [Late; 15] = [
     ("refused by 1", |nodes| shapes::functions(nodes).bytes()[1..].to_vec()),
-    ("refused by 2", |nodes| shapes::functions(nodes).with(|f| f.header.zeros[3] = 1).bytes()),
+    ("refused by 2", |nodes| shapes::functions(nodes).with(|f| f.header.zeros[2] = 1).bytes()),
     ("refused by 3", |nodes| shapes::functions(nodes).with(add_nop).bytes()),
     ("refused by 4", |nodes| spoil_last(nodes, |f| f.zeros[1] = 1)),
     ("refused by 5", |nodes| spoil_last(nodes, |f| f.count += 1)),

@@ -6,6 +6,7 @@ pub mod calls;
 pub mod depth;
 mod draw;
 mod draw_stmt;
+mod editions;
 pub mod endless;
 pub mod late;
 pub mod lively;

@@ -1,5 +1,6 @@
 //! Random accepted programs that run for long: loops that end, calls, recursion with an end.
 
+use crate::editions;
 use crate::lively_stmt::Body;
 use crate::record::File;
 use crate::rng::Rng;
@@ -16,15 +17,17 @@ pub(crate) struct Signature {
 
 /// A random program that passes the check.
 pub fn draw(rng: &mut Rng) -> File {
-    drawn(rng, true)
+    let mut file = drawn(rng, true);
+    editions::draw(rng, &mut file);
+    file
 }
 
-/// A random program that passes the check of every release: no read needs an early return.
+/// A random program that passes the check of every release: its edition is 0 and no read needs an early return.
 pub fn draw_plain(rng: &mut Rng) -> File {
     drawn(rng, false)
 }
 
-/// A random program, with reads that need early returns or without.
+/// A random program of edition 0, with reads that need early returns or without.
 fn drawn(rng: &mut Rng, early: bool) -> File {
     loop {
         let functions = if rng.one_in(5) { 1 } else { rng.between(2, 6) };

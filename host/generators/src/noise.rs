@@ -98,20 +98,9 @@ pub fn nonsense(rng: &mut Rng) -> Vec<u8> {
     let (functions, nodes) = (rng.between(1, 4), rng.between(1, 40));
     let mut file: Vec<u8> = (0..12 * (1 + functions + nodes)).map(|_| rng.draw() as u8).collect();
     if rng.one_in(2) {
-        file[..12].copy_from_slice(&[
-            b'P',
-            b'R',
-            functions as u8,
-            0,
-            nodes as u8,
-            0,
-            0,
-            0,
-            0,
-            0,
-            0,
-            0,
-        ]);
+        let edition = rng.beside().below(2) as u8;
+        let header = [b'P', b'R', functions as u8, 0, nodes as u8, 0, 0, 0, edition, 0, 0, 0];
+        file[..12].copy_from_slice(&header);
     }
     file
 }

@@ -6,7 +6,8 @@ pub struct Header {
     pub mark: [u8; 2],
     pub functions: u16,
     pub nodes: u32,
-    pub zeros: [u8; 4],
+    pub edition: u8,
+    pub zeros: [u8; 3],
 }
 
 /// A function record's fields.
@@ -53,6 +54,7 @@ impl File {
         out.extend(self.header.mark);
         out.extend(self.header.functions.to_le_bytes());
         out.extend(self.header.nodes.to_le_bytes());
+        out.push(self.header.edition);
         out.extend(self.header.zeros);
         for f in &self.functions {
             out.extend(f.mark);

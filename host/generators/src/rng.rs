@@ -16,6 +16,11 @@ impl Rng {
         rng
     }
 
+    /// A generator of other numbers, which leaves this one's as they are.
+    pub fn beside(&self) -> Rng {
+        Rng::new(!self.state)
+    }
+
     /// The next number.
     pub fn draw(&mut self) -> u64 {
         self.state ^= self.state << 13;

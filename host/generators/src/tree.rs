@@ -15,6 +15,7 @@ pub const DIV: u8 = 3;
 pub const REM: u8 = 4;
 pub const SHL: u8 = 5;
 pub const SHR: u8 = 6;
+pub const AND: u8 = 7;
 pub const XOR: u8 = 9;
 pub const LT: u8 = 10;
 pub const LE: u8 = 11;
@@ -92,7 +93,7 @@ pub fn file(functions: &[Function]) -> File {
         });
     }
     let (functions, count) = (records.len() as u16, nodes.len() as u32);
-    let header = Header { mark: *b"PR", functions, nodes: count, zeros: [0; 4] };
+    let header = Header { mark: *b"PR", functions, nodes: count, edition: 0, zeros: [0; 3] };
     File { header, functions: records, nodes }
 }
 

@@ -1,6 +1,7 @@
 //! Random files that pass the check, or all of it but what names and returns decide.
 
 use crate::draw::Body;
+use crate::editions;
 use crate::plan::{Names, Plan};
 use crate::record::File;
 use crate::rng::Rng;
@@ -52,6 +53,7 @@ pub fn draw_sized(rng: &mut Rng, functions: usize, nodes: usize, names: Names) -
     for number in 0..functions {
         shuffle_variables(rng, &mut file, number);
     }
+    editions::draw(rng, &mut file);
     file
 }
 

@@ -98,7 +98,7 @@ fn head(file: &[u8]) -> Result<(Functions<'_>, &[u8]), u8> {
     let count = usize::from(file[2]) + 256 * usize::from(file[3]);
     let nodes = word(file, 4) as usize;
     let counts = (1..=128).contains(&count) && (1..=4096).contains(&nodes);
-    if file[..2] != *b"PR" || !counts || word(file, 8) != 0 {
+    if file[..2] != *b"PR" || !counts || word(file, 8) > 1 {
         return Err(2);
     }
     if file.len() != RECORD * (1 + count + nodes) {

@@ -21,15 +21,16 @@ pub fn parse(file: &[u8]) -> Result<Program, Refusal> {
     judge_functions(&functions, nodes)?;
     let parts = parts(&functions);
     let nodes = records[1 + count..].iter().map(record::node).collect();
-    Ok(Program { functions, nodes, parts })
+    Ok(Program { edition: header.edition, functions, nodes, parts })
 }
 
-/// Question 2: the header's mark, counts and zeros.
+/// Question 2: the header's mark, counts, edition and zeros.
 fn header_right(h: &Header) -> bool {
     h.mark == *b"PR"
         && (1..=128).contains(&h.functions)
         && (1..=4096).contains(&h.nodes)
-        && h.zeros == [0; 4]
+        && h.edition <= 1
+        && h.zeros == [0; 3]
 }
 
 /// Question 4 of one function record.

@@ -10,7 +10,8 @@ pub struct Header {
     pub mark: [u8; 2],
     pub functions: u16,
     pub nodes: u32,
-    pub zeros: [u8; 4],
+    pub edition: u8,
+    pub zeros: [u8; 3],
 }
 
 /// A function record's fields.
@@ -35,6 +36,7 @@ pub struct Node {
 
 /// A file that passed questions 1 to 6; `parts` has the node numbers of each function.
 pub struct Program {
+    pub edition: u8,
     pub functions: Vec<Function>,
     pub nodes: Vec<Node>,
     pub parts: Vec<Range<usize>>,
@@ -77,7 +79,8 @@ pub fn header(r: &Bytes) -> Header {
         mark: [r[0], r[1]],
         functions: u16::from_le_bytes([r[2], r[3]]),
         nodes: word(r, 4),
-        zeros: [r[8], r[9], r[10], r[11]],
+        edition: r[8],
+        zeros: [r[9], r[10], r[11]],
     }
 }
 

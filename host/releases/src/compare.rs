@@ -1,6 +1,6 @@
 //! The earlier release and this one side by side, after every single step.
 
-use crate::steps::programs;
+use crate::steps::{is_known, programs};
 use generators::rng::Rng;
 use generators::{calls, lively};
 use reference::image::WORDS;
@@ -112,9 +112,12 @@ impl Compared {
     }
 }
 
-/// A random program by its seed.
+/// A random program by its seed, in edition 0 where the earlier release knows no other.
 fn random(seed: u64) -> (String, Vec<u8>) {
-    let file = lively::draw(&mut Rng::new(7_000_000 + seed));
+    let mut file = lively::draw(&mut Rng::new(7_000_000 + seed));
+    if !is_known(&file) {
+        file.header.edition = 0;
+    }
     (format!("random program {seed}"), file.bytes())
 }
 

@@ -1,6 +1,7 @@
 //! The endless programs, and runs of them on one side.
 
 use generators::endless::{Program, ALL, CALLS};
+use generators::File;
 use reference::image::WORDS;
 use reference::machine::Outcome;
 use tests::machine::Entries;
@@ -9,11 +10,23 @@ use tests::report::shown;
 /// The steps after which a program has long been in its loop.
 pub const REACHED: u64 = 1_000;
 
-/// The endless programs: the calls by the number of their arguments, then the others.
+/// Whether the earlier release knows the edition of a file.
+#[cfg(feature = "before")]
+pub fn is_known(file: &File) -> bool {
+    !matches!(tests::before::check(&file.bytes()), Some((2, ..)))
+}
+
+/// Every edition is known where no earlier release is linked.
+#[cfg(not(feature = "before"))]
+fn is_known(_: &File) -> bool {
+    true
+}
+
+/// The endless programs of known editions: the calls by the number of their arguments, then the others.
 pub fn programs() -> Vec<Program> {
     let is_call = |name: &str| CALLS.iter().any(|(call, _)| *call == name);
     let others = ALL.into_iter().filter(|(name, _)| !is_call(name));
-    CALLS.into_iter().chain(others).collect()
+    CALLS.into_iter().chain(others).filter(|(_, make)| is_known(&make())).collect()
 }
 
 /// The file of a program by its name or its number.

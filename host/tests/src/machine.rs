@@ -3,6 +3,7 @@
 mod change;
 mod cut;
 mod deep;
+mod editions;
 mod fitness;
 mod lists;
 mod looks;
@@ -68,15 +69,17 @@ fn guarded(group: &dyn Fn() -> Outcome) -> Outcome {
 
 /// The scenarios on one side, with random ones of a size that a number's scale says.
 fn on_side(side: &Entries, scale: impl Fn(u64) -> u64, report: &mut Report) {
-    let groups: [(&str, &dyn Fn() -> Outcome); 10] = [
+    let groups: [(&str, &dyn Fn() -> Outcome); 12] = [
         ("table of runs, entry points", &|| table::outcome(side)),
         ("fit states, entry points", &|| fitness::outcome(side)),
+        ("runs on in the other edition", &|| editions::outcome(side)),
         ("short memories", &|| table::short(side)),
         ("deep trees, small stack", &|| deep::outcome(side)),
         ("runs cut into pieces", &|| cut::outcome(side, scale(40))),
         ("look-ups after every step", &|| looks::outcome(side, scale(12))),
         ("random lists of calls", &|| lists::outcome(side, scale(1_000))),
         ("random runs", &|| random::outcome(side, scale(20_000))),
+        ("random runs in both editions", &|| editions::random(side, scale(4_000))),
         ("each word changed", &|| memories::each_word(side)),
         ("changed memories", &|| memories::outcome(side, scale(100_000))),
     ];

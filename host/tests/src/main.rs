@@ -82,7 +82,7 @@ fn all_accepted(tally: &Tally) -> Outcome {
     Outcome { passed: row[0], failed: refused, differences: Vec::new() }
 }
 
-/// Whether each aimed defect hit its question at least once in eight files; prints how often.
+/// Whether each aimed defect hit its question at least once in eight files, and each header byte from 8 on some; prints how often.
 fn aim(tally: &Tally) -> Outcome {
     let mut outcome = Outcome::default();
     for (question, row) in tally.answers.iter().enumerate().take(15).skip(1) {
@@ -91,11 +91,13 @@ fn aim(tally: &Tally) -> Outcome {
             "  aimed at {question:>2}: {} of {files} refused there, {} accepted",
             row[question], row[0]
         );
-        if row[question] * 8 >= files {
-            outcome.passed += 1;
-        } else {
-            outcome.failed += 1;
-        }
+        let enough = row[question] * 8 >= files;
+        outcome.same(|| format!("aimed at {question}"), &[], true, enough);
+    }
+    let [edition, zeros @ ..] = tally.header;
+    println!("  aimed at the edition: {edition}, at the header's zeros: {zeros:?}");
+    for (byte, files) in (8..).zip(tally.header) {
+        outcome.same(|| format!("aimed at header byte {byte}"), &[], true, files > 0);
     }
     outcome
 }

@@ -39,13 +39,16 @@ pub struct Tally {
     pub outcomes: Vec<Vec<Outcome>>,
     /// The number of files of each kind that got each question, 0 for accepted.
     pub answers: [[usize; 15]; KINDS.len()],
+    /// The files aimed at question 2 and refused there of which each header byte from 8 on is wrong.
+    pub header: [usize; 4],
 }
 
 impl Tally {
     /// Nothing counted yet.
     fn new(sides: usize) -> Tally {
         let row = || (0..sides).map(|_| Outcome::default()).collect();
-        Tally { outcomes: KINDS.iter().map(|_| row()).collect(), answers: [[0; 15]; KINDS.len()] }
+        let outcomes = KINDS.iter().map(|_| row()).collect();
+        Tally { outcomes, answers: [[0; 15]; KINDS.len()], header: [0; 4] }
     }
 
     /// Adds what another thread found.
@@ -56,6 +59,7 @@ impl Tally {
         for (own, others) in self.answers.iter_mut().zip(other.answers) {
             own.iter_mut().zip(others).for_each(|(own, other)| *own += other);
         }
+        self.header.iter_mut().zip(other.header).for_each(|(own, other)| *own += other);
     }
 
     /// Asks all sides about a file and compares their answers with the reference's.
@@ -63,6 +67,11 @@ impl Tally {
         let expected: Answer = reference::check(file);
         let question = expected.map_or(0, |(question, _, _)| usize::from(question));
         self.answers[kind][question] += 1;
+        if (kind, question) == (2, 2) {
+            let most = [1, 0, 0, 0];
+            let wrong = file[8..12].iter().zip(most).map(|(byte, most)| usize::from(*byte > most));
+            self.header.iter_mut().zip(wrong).for_each(|(count, wrong)| *count += wrong);
+        }
         for (side, outcome) in sides.iter().zip(&mut self.outcomes[kind]) {
             let got = (side.check)(file);
             outcome.compare(|| format!("{}, seed {seed}", KINDS[kind]), file, expected, got);

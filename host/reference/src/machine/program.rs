@@ -76,8 +76,9 @@ impl Function {
     }
 }
 
-/// The functions of a file, main first.
+/// The edition and the functions of a file, main first.
 pub struct Program {
+    pub edition: u8,
     pub functions: Vec<Function>,
 }
 
@@ -90,7 +91,7 @@ impl Program {
         let records = head::parse(file)?;
         let forest = tree::question_8(&records)?;
         let each = (0..records.functions.len()).map(|number| function(&records, &forest, number));
-        Ok(Program { functions: each.collect() })
+        Ok(Program { edition: records.edition, functions: each.collect() })
     }
 
     /// The type of an expression of a function.

@@ -196,13 +196,13 @@ impl Running {
                 let frame = Frame::Second { op, left };
                 self.push(program, frame, right, Rule::OpSecond).map(Moved::On)
             }
-            (Frame::Second { op, left }, Value::Int(right)) => match apply(op, left, right) {
-                None => Some(Moved::To(Rule::OpArith, State::Arith)),
-                Some(result) => {
-                    self.control = Control::Value(result);
-                    Some(Moved::On(Rule::OpValue))
-                }
-            },
+            (Frame::Second { op, left }, Value::Int(right)) => {
+                let Some(result) = apply(program.edition, op, left, right) else {
+                    return Some(Moved::To(Rule::OpArith, State::Arith));
+                };
+                self.control = Control::Value(result);
+                Some(Moved::On(Rule::OpValue))
+            }
             (Frame::And(_), Value::Bool(false)) => Some(Moved::On(Rule::AndFalse)),
             (Frame::And(right), Value::Bool(true)) => {
                 self.reach(program, right)?;

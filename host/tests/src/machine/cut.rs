@@ -16,9 +16,9 @@ const LONGEST: u64 = 1_200;
 /// The rows of the tables and so many random programs, cut into pieces of every length.
 pub fn outcome(side: &Entries, programs: u64) -> Outcome {
     let mut outcome = Outcome::default();
-    for row in worked::table().iter().chain(&worked::more()) {
+    for row in worked::rows() {
         let most = row.allowance.min(LONGEST);
-        outcome.add(pieces(side, &Model::new(&row.file), row.name, most));
+        outcome.add(pieces(side, &Model::new(&row.file), &row.name, most));
     }
     for seed in 0..programs {
         let model = Model::new(&lively::draw(&mut Rng::new(1_000_000 + seed)));

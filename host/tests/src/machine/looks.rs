@@ -32,7 +32,7 @@ pub fn outcome(side: &Entries, programs: u64) -> Outcome {
         outcome.add(looks(side, &Model::new(file), format!("worked {i}")));
     }
     for row in worked::table() {
-        outcome.add(looks(side, &Model::new(&row.file), row.name.to_string()));
+        outcome.add(looks(side, &Model::new(&row.file), row.name));
     }
     for seed in 0..programs {
         let model = Model::new(&lively::draw(&mut Rng::new(2_000_000 + seed)));

@@ -13,7 +13,8 @@ use reference::machine::{Outcome as End, State};
 #[derive(Default)]
 struct Tally {
     rules: [u64; RULES],
-    ends: [u64; 5],
+    /// The outcomes in editions 0 and 1.
+    ends: [[u64; 5]; 2],
     steps: u64,
     pieces: u64,
     looks: u64,
@@ -50,7 +51,8 @@ pub fn outcome(side: &Entries, programs: u64) -> Outcome {
         let allowance = if rng.one_in(20) { 20_000 } else { 1 + rng.below(2_000) as u64 };
         let mut trial = Trial::started(side, &model, format!("program {seed}"));
         let whole = trial.run(allowance);
-        tally.ends[place(whole.0)] += 1;
+        let edition = usize::from(model.judge.program.edition);
+        tally.ends[edition][place(whole.0)] += 1;
         tally.steps += whole.1;
         if seed % 16 == 0 {
             tally.count(&model, whole.1);
@@ -59,11 +61,11 @@ pub fn outcome(side: &Entries, programs: u64) -> Outcome {
         outcome.add(trial.outcome);
     }
     let Tally { rules, ends, steps, pieces, looks } = tally;
-    println!("  {steps} steps; value, arith, abort, Spent, Full: {ends:?}");
+    println!("  {steps} steps; value, arith, abort, Spent, Full in editions 0 and 1: {ends:?}");
     println!(
         "  the same again in {pieces} pieces of random lengths, {looks} look-ups between them"
     );
-    let seen = rules.iter().chain(&ends).all(|&count| count > 0);
+    let seen = rules.iter().chain(ends.as_flattened()).all(|&count| count > 0);
     outcome.same(|| format!("all rules and outcomes {rules:?}"), &[], true, seen);
     outcome
 }

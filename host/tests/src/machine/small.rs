@@ -8,10 +8,10 @@ use reference::machine::{Control, Frame, Ref, State, Value};
 /// The rows of the tables on states alone, and the turns of `while(true, nop)`.
 pub fn outcome() -> Outcome {
     let mut outcome = Outcome::default();
-    for row in worked::table().iter().chain(&worked::more()) {
+    for row in worked::rows() {
         let model = Model::new(&row.file);
         let (_, end, steps) = model.after(row.allowance);
-        outcome.same(|| row.name.to_string(), &model.file, row.expected, (end, steps));
+        outcome.same(|| row.name.clone(), &model.file, row.expected, (end, steps));
     }
     outcome.add(five_steps());
     outcome.add(stale());

@@ -10,12 +10,12 @@ use reference::machine::{Outcome as End, State};
 /// Every row: the refused ones, and the others with their outcomes, each run twice.
 pub fn outcome(side: &Entries) -> Outcome {
     let mut outcome = Outcome::default();
-    for row in worked::table().iter().chain(&worked::more()) {
+    for row in worked::rows() {
         let model = Model::new(&row.file);
-        let mut trial = Trial::started(side, &model, row.name.to_string());
+        let mut trial = Trial::started(side, &model, row.name.clone());
         trial.memory_check();
         let (end, steps) = trial.run(row.allowance);
-        trial.outcome.same(|| row.name.to_string(), &model.file, row.expected, (end, steps));
+        trial.outcome.same(|| row.name.clone(), &model.file, row.expected, (end, steps));
         trial.memory_check();
         trial.look_up(0);
         if end != End::Spent {

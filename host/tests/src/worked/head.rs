@@ -30,9 +30,7 @@ pub fn question_2() -> Group {
     for at in 0..2 {
         g.refused(format!("mark {at}"), three().with(|f| f.header.mark[at] ^= 0x20), 2, 0);
     }
-    for at in 0..4 {
-        g.refused(format!("zero {at}"), three().with(|f| f.header.zeros[at] = 1), 2, 0);
-    }
+    editions(&mut g);
     for count in [0, 129, 0x0103, 0x8003, 0xFFFF] {
         g.refused(format!("F {count}"), three().with(|f| f.header.functions = count), 2, 0);
     }
@@ -45,6 +43,23 @@ pub fn question_2() -> Group {
     });
     g.refused("and question 3", both, 2, 0);
     g
+}
+
+/// The bytes 8 to 11: an edition and three zeros.
+fn editions(g: &mut Group) {
+    let of = |edition: u8| three().with(|f| f.header.edition = edition);
+    for edition in [0, 1] {
+        g.accepted(format!("edition {edition}"), of(edition));
+        for (at, wrong) in [(0, 1), (0, 0x80), (1, 1), (1, 0x80), (2, 1), (2, 0x80)] {
+            let spoilt = of(edition).with(|f| f.header.zeros[at] = wrong);
+            g.refused(format!("edition {edition}, zero {at} is {wrong}"), spoilt, 2, 0);
+        }
+    }
+    for edition in [2, 3, 127, 128, 255] {
+        g.refused(format!("edition {edition}"), of(edition), 2, 0);
+    }
+    let both = of(2).with(|f| f.nodes.truncate(6));
+    g.refused("edition 2 and question 3", both, 2, 0);
 }
 
 /// Question 3: the number of records.

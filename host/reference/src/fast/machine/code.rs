@@ -8,6 +8,8 @@ pub type Record = [u8; RECORD];
 
 /// The functions and nodes of an accepted file.
 pub struct Code<'a> {
+    /// The bits that no shift count may have: in edition 1 all but the low five.
+    pub outside: u32,
     functions: &'a [Record],
     nodes: &'a [Record],
     /// The first node of each function.
@@ -29,7 +31,8 @@ impl<'a> Code<'a> {
         for (i, function) in functions.iter().enumerate() {
             first[i + 1] = first[i] + word(function, 8) as u16;
         }
-        Code { functions, nodes, first }
+        let outside = if file[8] == 0 { 0 } else { !31 };
+        Code { outside, functions, nodes, first }
     }
 
     /// The number of functions.

@@ -1,12 +1,12 @@
 //! The step that gives a value to the top frame.
 
-use super::code::variable;
+use super::code::{variable, Code};
 use super::run::{Live, Next};
 use crate::image::FRAME;
 
 /// The form and the word of an operator's result; none where it raises arith.
 #[inline(always)]
-fn apply(op: u32, left: u32, right: u32) -> Option<(u32, u32)> {
+fn apply(code: &Code, op: u32, left: u32, right: u32) -> Option<(u32, u32)> {
     let (l, r) = (left as i32, right as i32);
     let int = |word: i32| Some((2, word as u32));
     let truth = |b: bool| Some((3, u32::from(b)));
@@ -16,8 +16,9 @@ fn apply(op: u32, left: u32, right: u32) -> Option<(u32, u32)> {
         2 => int(l.wrapping_mul(r)),
         3 => l.checked_div(r).and_then(int),
         4 => l.checked_rem(r).and_then(int),
-        5 => int(l.wrapping_shl(right)),
-        6 => int(l.wrapping_shr(right)),
+        5 if right & code.outside == 0 => int(l.wrapping_shl(right)),
+        6 if right & code.outside == 0 => int(l.wrapping_shr(right)),
+        5 | 6 => None,
         7 => int(l & r),
         8 => int(l | r),
         9 => int(l ^ r),
@@ -91,7 +92,7 @@ impl Live<'_> {
             self.reach(slot as usize);
             return Next::On;
         }
-        match apply(op, left, self.word) {
+        match apply(self.code, op, left, self.word) {
             None => Next::Arith,
             Some(result) => {
                 self.pop(6);
