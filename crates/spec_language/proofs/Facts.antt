@@ -7,10 +7,10 @@ use Prim.Native.Nat.{ℕ, zero, suc, _+_, _*_, _-_, _^_, _≤_, _<_}
 use native.Mathlib.Omega.{arith}
 use native.Mathlib.Nat.{not-suc-le-zero}
 use lib.Dec.{eqb, leb, ltb}
-use lib.ListN.{length}
+use lib.ListN.{length, getD}
 use borrow.Author.Tests.{eqb-true, leb-true, ltb-true, ltb-false, not-true, eq-eqb}
 use Rattle.records.specs.Bytes.{u16At}
-use Rattle.records.specs.Fields.{markAt, functions, nodes, resultOf, paramsOf, varsOf, maskOf, countOf, kindAt, aAt, bAt, sizeAt}
+use Rattle.records.specs.Fields.{markAt, functions, nodes, editionOf, resultOf, paramsOf, varsOf, maskOf, countOf, kindAt, aAt, bAt, sizeAt}
 use Rattle.records.specs.Parts.{sumOf, startOf, Laid}
 use Rattle.records.specs.Children.{arityAt, walk, children}
 use Rattle.records.proofs.Bools.{and-left, and-right, or-cases, clash}
@@ -30,6 +30,9 @@ pub record Header (s : List ℕ) : Type 0 where
   pub few : functions s ≤ 128
   pub one : 1 ≤ nodes s
   pub small : nodes s ≤ 4096
+  pub edition : editionOf s ≤ 1
+  pub byte-9 : getD s 9 0 ≡ 0
+  pub bytes-10 : u16At s 10 ≡ 0
 
 pub header-is : (s : List ℕ) → headerOk s ≡ true → Header s
 unfolding headerOk
@@ -38,7 +41,18 @@ header-is s e =
     let f = within-is 1 128 (functions s) (and-left (within 1 128 (functions s)) _ a) in
     let b = and-right (within 1 128 (functions s)) _ a in
     let n = within-is 1 4096 (nodes s) (and-left (within 1 4096 (nodes s)) _ b) in
-    record { mark = eqb-true _ _ (and-left (eqb (markAt s 0) 21072) _ e); some = f .0; few = f .1; one = n .0; small = n .1 }
+    let c = and-right (within 1 4096 (nodes s)) _ b in
+    let d = and-right (leb (editionOf s) 1) _ c in
+    record {
+      mark = eqb-true _ _ (and-left (eqb (markAt s 0) 21072) _ e);
+      some = f .0;
+      few = f .1;
+      one = n .0;
+      small = n .1;
+      edition = leb-true _ _ (and-left (leb (editionOf s) 1) _ c);
+      byte-9 = eqb-true _ _ (and-left (eqb (getD s 9 0) 0) _ d);
+      bytes-10 = eqb-true _ _ (and-right (eqb (getD s 9 0) 0) _ d);
+    }
 
 -- the record of function f is as question 4 wants it
 pub record Function (s : List ℕ) (f : ℕ) : Type 0 where
