@@ -23,12 +23,19 @@ extern "C" {
 
 /* The version of the library, as CHANGELOG.md numbers it. */
 #define PANELRUE_VERSION_MAJOR 0
-#define PANELRUE_VERSION_MINOR 3
-#define PANELRUE_VERSION_PATCH 1
-#define PANELRUE_VERSION "0.3.1"
+#define PANELRUE_VERSION_MINOR 4
+#define PANELRUE_VERSION_PATCH 0
+#define PANELRUE_VERSION "0.4.0"
 
 /* The bytes of the longest procedure that can pass: a header, 128 functions and 4,096 nodes of 12 bytes each. */
 #define PANELRUE_LONGEST_FILE 50700
+
+/*
+ * The byte of a file that is its edition, and the last edition that there is; a file of a later one is refused by question 2. Edition 0
+ * keeps the low five bits of a shift count, edition 1 raises arith for one below 0 or above 31. An image does not have the edition.
+ */
+#define PANELRUE_EDITION_BYTE 8
+#define PANELRUE_LAST_EDITION 1
 
 /* The words of 32 bits of a state's image, which start, run, memory check and look-up want at least; later words never change. */
 #define PANELRUE_WORDS 16384
@@ -49,7 +56,7 @@ extern "C" {
 
 /* How a run stopped: the first word of its answer. */
 #define PANELRUE_VALUE 0u /* main returned; the int is the second word */
-#define PANELRUE_ARITH 1u /* a division or remainder without a result */
+#define PANELRUE_ARITH 1u /* a division or remainder without a result, or in edition 1 a shift */
 #define PANELRUE_ABORT 2u /* an assert failed */
 #define PANELRUE_SPENT 3u /* the allowance was used up; run again to go on */
 #define PANELRUE_FULL 4u  /* the next state would pass a limit (14 saved callers, 512 frames); running again changes nothing */

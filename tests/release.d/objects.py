@@ -11,7 +11,7 @@ import re
 import shutil
 import sys
 
-KEYS = ['name', 'verdict', 'question', 'place', 'item', 'function', 'node', 'variable', 'sentence', 'sha256', 'revision']
+KEYS = ['name', 'verdict', 'question', 'place', 'item', 'function', 'node', 'variable', 'sentence', 'edition', 'sha256', 'revision']
 SEQUENCES = [b'\xc3\xa9', b'\xe2\x82\xac', b'\xf0\x9f\x98\x80', b'\xf4\x8f\xbf\xbf', b'\xed\x9f\xbf', b'\xee\x80\x80',
              b'\xc0\x80', b'\xc1\xbf', b'\xe0\x80\x80', b'\xe0\x9f\xbf', b'\xe0\xa0\x80', b'\xed\xa0\x80', b'\xed\xbf\xbf',
              b'\xf0\x80\x80\x80', b'\xf0\x8f\xbf\xbf', b'\xf0\x90\x80\x80', b'\xf4\x90\x80\x80', b'\xf5\x80\x80\x80',
@@ -82,19 +82,22 @@ def files_of(folders):
 def expected(name, line, revision):
     """What the object of a file with this line has to be."""
     said = line[len(printed(name)):] if line.startswith(printed(name)) else b''
-    match = re.fullmatch(rb': (passed|refused (\d+) place (\d+) item (\d+): (.*)|cannot be read: .*)', said)
+    match = re.fullmatch(rb': (passed(?:, edition 1)?|refused (\d+) place (\d+) item (\d+): (.*)|cannot be read: .*)', said)
     if match is None:
         return None
     if match[1].startswith(b'cannot'):
-        return dict(zip(KEYS, [readable(name), 'unread'] + [None] * 6 + [match[1].decode(), None, revision]))
+        return dict(zip(KEYS, [readable(name), 'unread'] + [None] * 6 + [match[1].decode(), None, None, revision]))
     with open(name, 'rb') as file:
         data = file.read()
     digest = hashlib.sha256(data).hexdigest() if len(data) <= 50700 else None
-    if match[1] == b'passed':
-        return dict(zip(KEYS, [readable(name), 'passed'] + [None] * 7 + [digest, revision]))
+    if match[1].startswith(b'passed'):
+        if match[1] != (b'passed' if data[8] == 0 else b'passed, edition %d' % data[8]):
+            return None
+        return dict(zip(KEYS, [readable(name), 'passed'] + [None] * 7 + [data[8], digest, revision]))
     refusal = [int(match[k]) for k in (2, 3, 4)]
     places = [*located(data, refusal[1]), variable(data, refusal)]
-    return dict(zip(KEYS, [readable(name), 'refused', *refusal, *places, match[5].decode(), digest, revision]))
+    edition = data[8] if refusal[0] > 2 else None
+    return dict(zip(KEYS, [readable(name), 'refused', *refusal, *places, match[5].decode(), edition, digest, revision]))
 
 
 def compare(revision, lines, folders):
