@@ -1,7 +1,8 @@
 -- Where a shift raises arith; elsewhere its count is its low five bits.
 use mathlib.Core.Path.{_≡_, refl, sym, _∙_}
-use mathlib.Core.Bool.{Bool, true, false, not, _&&_, _||_, true≢false}
-use Prim.Native.Nat.{ℕ, _%_, _^_, _<_}
+use mathlib.Core.Logic.{_⊎_, inl, inr}
+use mathlib.Core.Bool.{Bool, true, false, not, _&&_, _||_, true≢false, and-false}
+use Prim.Native.Nat.{ℕ, zero, suc, _%_, _^_, _<_}
 use native.Mathlib.Omega.{arith}
 use lib.Dec.{eqb, leb, leb·suc-zero}
 use lib.IntN.{ℤ, pos}
@@ -9,7 +10,7 @@ use lib.Signed.{ltZ}
 use Rattle.varset.specs.Lowest.{pick}
 use borrow.Author.Tests.{le-leb, leb-false}
 use Rattle.arith.specs.Int.{int}
-use Rattle.arith.specs.Operators.{noShift, shifted}
+use Rattle.arith.specs.Operators.{shlOf, shrOf, noShift, shifted, results, applied}
 use Rattle.arith.specs.declared.Applied.the-variants.{Int, Arith}
 use Rattle.arith.proofs.WordInts.{Read, low, high, reading}
 
@@ -43,3 +44,26 @@ module _ (edition b : ℕ) (shift : ℕ → ℕ) where
           let l : b < 32 = leb-false 32 b (sym (no-shift b h) ∙ k) in
           let q : b % 32 ≡ b = omega arith in
           rw q
+
+-- a shift by its number
+abbrev pub Shift : ℕ → Type 0
+Shift o = (o ≡ 5) ⊎ (o ≡ 6)
+
+module _ (e edition a b : ℕ) (h : b < 2 ^ 32) where
+  -- by a count from 0 to 31 both shifts give in any two editions the same
+  shifted-same : (shift : ℕ → ℕ) → noShift b ≡ false → shifted e shift b ≡ shifted edition shift b
+  shifted-same shift k =
+      let u : (i : ℕ) → (not (eqb i 0) && noShift b) ≡ false = λ i. rw k (and-false (not (eqb i 0))) in
+      sym (shift-gives e b shift h (u e)) ∙ shift-gives edition b shift h (u edition)
+
+  -- what is no shift by another count gives in any two editions the same
+  pub applied-same : (o : ℕ) → (Shift o → noShift b ≡ false) → applied e o a b ≡ applied edition o a b
+  unfolding applied results
+  applied-same zero k = refl
+  applied-same (suc zero) k = refl
+  applied-same (suc (suc zero)) k = refl
+  applied-same (suc (suc (suc zero))) k = refl
+  applied-same (suc (suc (suc (suc zero)))) k = refl
+  applied-same (suc (suc (suc (suc (suc zero))))) k = shifted-same (shlOf a) (k (inl refl))
+  applied-same (suc (suc (suc (suc (suc (suc zero)))))) k = shifted-same (shrOf a) (k (inr refl))
+  applied-same (suc (suc (suc (suc (suc (suc (suc o))))))) k = refl

@@ -22,3 +22,4 @@ pub mod SampleFiles
 pub mod Samples
 pub mod SampleRuns
 pub mod StillFit
+pub mod Editions
