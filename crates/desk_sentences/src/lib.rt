@@ -1,104 +1,19 @@
 // The reason of a refusal as a sentence, for people.
+mod header;
 mod ways;
 
 use desk_faults::FunctionFault;
 use desk_faults::NodeFault;
 use desk_places::Place;
-use records::edition_of;
-use records::function_count;
-use records::mark_at;
-use records::node_count;
 use records::nodes::a_at;
 use records::nodes::b_at;
 use records::nodes::size_at;
-use records::wide;
 use texts::kinds::put_kind;
 use texts::put;
 use texts::put_numbered;
 use texts::put_word;
 ghost use Prim.Native.Nat.{_≤_};
 ghost use lib.ListN.{length};
-
-// Puts what is wrong with the length.
-fn put_length(file: &[u8], out: &mut [u8], at: usize) -> usize
-    ensures { λ r. ⌜ r ≤ length (now (out .exit)) ⌝ }
-{
-    let n = file.len();
-    if records::format::LONGEST_FILE < n {
-        return put(
-            out,
-            at,
-            b"the file has more than the 50,700 bytes of the longest procedure",
-        );
-    }
-    let next = put_numbered(out, at, b"the file has ", n as u64);
-    if n < records::format::SHORTEST_FILE {
-        return put(out, next, b" bytes, and a procedure has at least 36");
-    }
-    put(out, next, b" bytes, which is no multiple of 12")
-}
-
-// Puts what is wrong with the header.
-fn put_header(file: &[u8], out: &mut [u8], at: usize) -> usize
-    ensures { λ r. ⌜ r ≤ length (now (out .exit)) ⌝ }
-{
-    if file.len() < 12 {
-        return put(out, at, b"the file has no header");
-    }
-    if mark_at(file, 0) != records::format::HEADER_MARK {
-        return put(
-            out,
-            at,
-            b"the file does not begin with PR, so it is no procedure",
-        );
-    }
-    let functions = function_count(file);
-    if (functions < 1) | (records::format::MOST_FUNCTIONS < functions) {
-        let next = put_numbered(out, at, b"the header counts ", functions as u64);
-        return put(out, next, b" functions, and a procedure has 1 to 128");
-    }
-    let nodes = node_count(file);
-    if (nodes < 1) | (records::format::MOST_NODES < nodes) {
-        let next = put_numbered(out, at, b"the header counts ", nodes as u64);
-        return put(out, next, b" nodes, and a procedure has 1 to 4,096");
-    }
-    let edition = wide(edition_of(file));
-    if records::format::LAST_EDITION < edition {
-        let next = put_numbered(out, at, b"the header says edition ", edition as u64);
-        return put(out, next, b", and this desk knows editions 0 and 1");
-    }
-    put(
-        out,
-        at,
-        b"the last three bytes of the header, after its edition, are not zero",
-    )
-}
-
-// Puts how the length misses the header's counts.
-fn put_counts(file: &[u8], out: &mut [u8], at: usize) -> usize
-    ensures { λ r. ⌜ r ≤ length (now (out .exit)) ⌝ }
-{
-    if file.len() < 12 {
-        return put(out, at, b"the file has no header");
-    }
-    let functions = function_count(file);
-    let nodes = node_count(file);
-    let a = put_numbered(
-        out,
-        at,
-        b"the header's counts, functions ",
-        functions as u64,
-    );
-    let b = put_numbered(out, a, b" and nodes ", nodes as u64);
-    let c = put_numbered(
-        out,
-        b,
-        b", ask for a file of ",
-        12 * (1 + functions + nodes) as u64,
-    );
-    let d = put_numbered(out, c, b" bytes, and this one has ", file.len() as u64);
-    put(out, d, b" bytes")
-}
 
 // A fault by its number in the list of sentences.
 fn fault_number(fault: FunctionFault) -> usize
@@ -295,9 +210,9 @@ pub fn put_sentence(
     ensures { λ r. ⌜ r ≤ length (now (out .exit)) ⌝ }
 {
     match question {
-        1 => put_length(file, out, at),
-        2 => put_header(file, out, at),
-        3 => put_counts(file, out, at),
+        1 => header::put_length(file, out, at),
+        2 => header::put_header(file, out, at),
+        3 => header::put_counts(file, out, at),
         4 | 10 | 14 => put_function(file, question, place, item, out, at),
         7..=13 => put_node(file, question, place, out, at),
         _ => put_word(
