@@ -15,3 +15,4 @@ pub mod LowestRead
 pub mod Refusals
 pub mod Verdicts
 pub mod KnownNodes
+pub mod Editions

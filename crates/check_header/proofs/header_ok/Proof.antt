@@ -1,7 +1,7 @@
 use Rattle.records.specs.Format.{lastEdition}
-use Rattle.check_header.proofs.Editions.{ending-is}
 use native.Mathlib.Omega.{arith}
 use Rattle.spec_language.specs.Records.{headerOk, within}
+use Rattle.spec_language.proofs.Editions.{ending-is}
 use borrow.Author.Needs.{needs}
 use Rattle.check_header.proofs.header_ok.Statement.{statement}
 use Rattle.check_header.proofs.header_ok.Tie as tie
