@@ -24,6 +24,7 @@ no-shift b h = go (reading b h)
     go (high n l e) = sym (le-leb 32 b (omega arith))
 
 module _ (edition b : ℕ) (shift : ℕ → ℕ) where
+  -- where the code raises arith, the shift does
   pub shift-raises : (not (eqb edition 0) && noShift b) ≡ true → Arith ≡ shifted edition shift b
   unfolding shifted
   shift-raises e = go (eqb edition 0) (noShift b) e
@@ -33,6 +34,7 @@ module _ (edition b : ℕ) (shift : ℕ → ℕ) where
       go false true e = refl
       go false false e = absurd (true≢false (sym e))
 
+  -- elsewhere it gives what the low five bits give
   pub shift-gives : b < 2 ^ 32 → (not (eqb edition 0) && noShift b) ≡ false → Int (shift (b % 32)) ≡ shifted edition shift b
   unfolding shifted
   shift-gives h e = go (eqb edition 0) (noShift b) refl e
@@ -56,7 +58,7 @@ module _ (e edition a b : ℕ) (h : b < 2 ^ 32) where
       let u : (i : ℕ) → (not (eqb i 0) && noShift b) ≡ false = λ i. rw k (and-false (not (eqb i 0))) in
       sym (shift-gives e b shift h (u e)) ∙ shift-gives edition b shift h (u edition)
 
-  -- what is no shift by another count gives in any two editions the same
+  -- so does every other operator
   pub applied-same : (o : ℕ) → (Shift o → noShift b ≡ false) → applied e o a b ≡ applied edition o a b
   unfolding applied results
   applied-same zero k = refl

@@ -84,11 +84,11 @@ noQuotient a b = eqb b 0 || (eqb a (wrap (negℤ (pos (2 ^ 31)))) && eqb b (wrap
 unfoldable pub divided : ℕ → ℕ → ℕ → Applied
 divided a b result = pick (noQuotient a b) Arith (Int result)
 
--- the count is below 0 or above 31
+-- a shift count below 0 or above 31
 unfoldable pub noShift : ℕ → Bool
 noShift count = ltZ (int count) (pos 0) || ltZ (pos 31) (int count)
 
--- edition 0 keeps a shift count's low five bits; after it both shifts raise arith there
+-- edition 0 keeps the low five bits of a shift count; from edition 1 on both shifts raise arith there
 unfoldable pub shifted : ℕ → (ℕ → ℕ) → ℕ → Applied
 shifted edition shift count = pick (eqb edition 0) (Int (shift (count % 32))) (pick (noShift count) Arith (Int (shift count)))
 
