@@ -1,2 +1,2 @@
 pub mod Expressions
-pub mod Walks
+pub mod Descending

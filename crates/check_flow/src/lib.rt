@@ -1,11 +1,13 @@
-// Question 13: every variable read has a value by then.
+// Questions 13 and 14: every variable read has a value by then, and every body returns; by the summaries of a part's statements.
+use check_summary::fill;
+use check_summary::row_at;
+use check_summary::row_through;
 use records::Found;
 use records::minus;
 use records::nodes::b_at;
 use records::nodes::kind_at;
 use records::nodes::prior;
 use records::nodes::size_at;
-use records::or_else;
 use records::params_of;
 use records::wide;
 use varset::VarSet;
@@ -16,18 +18,22 @@ ghost use Prim.Native.Nat.{ℕ, _+_, _*_, _-_, _≤_, _<_};
 ghost use lib.Dec.{eqb};
 ghost use lib.ListN.{length};
 ghost use Rattle.records.specs.Format.{mostParameters, mostVariables};
-ghost use Rattle.varset.specs.Sets.{Set, has, none, without, below};
+ghost use Rattle.varset.specs.Lowest.{pick};
+ghost use Rattle.varset.specs.Sets.{has, below};
 ghost use Rattle.records.specs.Fields.{paramsOf, kindAt, bAt};
-ghost use Rattle.spec_language.specs.Statements.{Statement, Seq, Decl, If, While, statementAt, Read, readsOf};
-ghost use Rattle.spec_language.specs.Flow.{leaves, missing, lacks};
-ghost use Rattle.spec_language.specs.Known.{Known};
-ghost use Rattle.check_flow.specs.Follows.{Follows};
+ghost use Rattle.records.specs.Search.{orElse, unless};
+ghost use Rattle.spec_language.specs.Statements.{statementAt, readsOf};
+ghost use Rattle.spec_language.specs.Flow.{missing, lacks, returns};
+ghost use Rattle.spec_language.specs.Known.{Known, WellFormed};
+ghost use Rattle.check_summary.specs.Tables.{TableSays};
+ghost use Rattle.check_flow.specs.Descents.{lackOf, Below};
 
-// What a walk over a statement finds: the variables that have a value after it, those it declares, and the first empty read.
-pub struct Flow {
-    pub left: VarSet,
-    pub declared: VarSet,
-    pub found: Found,
+// Where the first empty read of a statement is sought: found, or to be sought in a statement inside it, begun with the set.
+struct Descent {
+    done: bool,
+    found: Found,
+    node: usize,
+    set: VarSet,
 }
 
 // Whether node i reads a variable that is not in the set.
@@ -43,7 +49,7 @@ fn reads_empty(part: &[u8], set: VarSet, i: usize) -> bool
 }
 
 // The first read of the expression at node e of a variable that is not in the set.
-pub fn first_missing(part: &[u8], n: usize, e: usize, set: VarSet) -> Found
+fn first_missing(part: &[u8], n: usize, e: usize, set: VarSet) -> Found
     requires inside { ⌜ (12 * n ≤ length (now part)) × (e < n) ⌝ }
     requires known { ⌜ Known (now part) n ⌝ }
     ensures { λ r. ⌜ r ≡ missing (readsOf (now (part .entry)) e) (has (set .0)) ⌝ }
@@ -58,134 +64,125 @@ pub fn first_missing(part: &[u8], n: usize, e: usize, set: VarSet) -> Found
     Found::Nothing
 }
 
-// A statement that declares nothing: what it leaves, and what its expression lacks.
-fn plain(left: VarSet, found: Found) -> Flow
-    ensures { λ r. ⌜ (r .left ≡ left) × (has (r .declared .0) ≡ none) × (r .found ≡ found) ⌝ }
+// The search is over.
+fn ends(found: Found) -> Descent
+    ensures { λ r. ⌜ ((t : List ℕ) → lackOf t r ≡ found) × ((i : ℕ) → Below i r) ⌝ }
 {
-    Flow {
-        left,
-        declared: VarSet::empty(),
+    Descent {
+        done: true,
         found,
+        node: 0,
+        set: VarSet::empty(),
     }
 }
 
-// One statement after another.
-fn in_sequence(first: Flow, second: Flow) -> Flow
-    ensures { λ r. ⌜ ((s t : Statement) (d : Set) → Follows s d first → Follows t (leaves s d) second → Follows (Seq s t) d r) ⌝ }
+// The search goes on in the statement at a node.
+fn into(node: usize, set: VarSet) -> Descent
+    ensures { λ r. ⌜ ((t : List ℕ) → lackOf t r ≡ lacks (statementAt t node) (has (set .0))) × ((i : ℕ) → node < i → Below i r) ⌝ }
 {
-    let a = first.declared;
-    let b = second.declared;
-    let left = second.left;
-    let early = first.found;
-    let late = second.found;
-    Flow {
-        left,
-        declared: a.union(b),
-        found: or_else(early, late),
+    Descent {
+        done: false,
+        found: Found::Nothing,
+        node,
+        set,
     }
 }
 
-// A statement in the scope of x.
-fn in_scope(inner: Flow, x: u32) -> Flow
-    requires { ⌜ x < mostVariables ⌝ }
-    ensures { λ r. ⌜ ((s : Statement) (d : Set) → Follows s (without d x) inner → Follows (Decl x s) d r) ⌝ }
+// Into the first of two statements unless it passes, else into the second.
+fn into_either(passes: bool, first: usize, set: VarSet, second: usize, after: VarSet) -> Descent
+    ensures { λ r. ⌜ ((t : List ℕ) → lackOf t r ≡ pick passes (lacks (statementAt t second) (has (after .0))) (lacks (statementAt t first) (has (set .0)))) × ((i : ℕ) → first < i → second < i → Below i r) ⌝ }
 {
-    let left = inner.left;
-    let declared = inner.declared;
-    let found = inner.found;
-    let after = left.remove(x);
-    Flow {
-        left: after,
-        declared: declared.insert(x),
-        found,
+    if passes {
+        into(second, after)
+    } else {
+        into(first, set)
     }
 }
 
-// Two branches after a condition.
-fn in_branches(lacking: Found, first: Flow, second: Flow) -> Flow
-    ensures { λ r. ⌜ ((e : List Read) (s t : Statement) (d : Set) → lacking ≡ missing e d → Follows s d first → Follows t d second → Follows (If e s t) d r) ⌝ }
+// After a condition: its own empty read, or else what comes after it.
+fn after_condition(lacking: Found, rest: Descent) -> Descent
+    ensures { λ r. ⌜ ((t : List ℕ) → lackOf t r ≡ orElse lacking (lackOf t rest)) × ((i : ℕ) → Below i rest → Below i r) ⌝ }
 {
-    let p = first.left;
-    let q = second.left;
-    let a = first.declared;
-    let b = second.declared;
-    let early = first.found;
-    let late = second.found;
-    Flow {
-        left: p.meet(q),
-        declared: a.union(b),
-        found: or_else(lacking, or_else(early, late)),
+    match lacking {
+        Found::At(place, item) => ends(Found::At(place, item)),
+        Found::Nothing => rest,
     }
 }
 
-// A loop's body after its condition, begun with the set.
-fn in_loop(lacking: Found, body: Flow, set: VarSet) -> Flow
-    ensures { λ r. ⌜ ((e : List Read) (s : Statement) → lacking ≡ missing e (has (set .0)) → Follows s (has (set .0)) body → Follows (While e s) (has (set .0)) r) ⌝ }
-{
-    let declared = body.declared;
-    let found = body.found;
-    let kept = set.minus(declared);
-    Flow {
-        left: kept,
-        declared,
-        found: or_else(lacking, found),
-    }
-}
-
-// What the statement at node i finds, begun with the set; by kind.
-pub fn flow_from(part: &[u8], n: usize, i: usize, set: VarSet) -> Flow
-    requires inside { ⌜ (12 * n ≤ length (now part)) × (i < n) ⌝ }
-    requires known { ⌜ Known (now part) n ⌝ }
-    ensures { λ r. ⌜ Follows (statementAt (now (part .entry)) i) (has (set .0)) r ⌝ }
+// One level of the search, at the statement at node i, begun with the set; by kind.
+fn descend(part: &[u8], n: usize, table: &[u64], i: usize, set: VarSet) -> Descent
+    requires { ⌜ WellFormed (now part) n × TableSays (now part) n (now table) × (i < n) ⌝ }
+    ensures { λ r. ⌜ (lackOf (now (part .entry)) r ≡ lacks (statementAt (now (part .entry)) i) (has (set .0))) × Below i r ⌝ }
 {
     let kind = kind_at(part, i);
     match kind {
         7 => {
             let b = i - 1;
             let a = prior(part, b);
-            let first = flow_from(part, n, a, set);
-            let left = first.left;
-            in_sequence(first, flow_from(part, n, b, left))
+            let first = row_through(table, a, set);
+            let after = first.left;
+            into_either(first.ok, a, set, b, after)
         }
-        8 => {
-            let x = b_at(part, i);
-            let after = set.insert(x);
-            plain(after, first_missing(part, n, i - 1, set))
-        }
+        8 => ends(first_missing(part, n, i - 1, set)),
         9 => {
-            let x = b_at(part, i);
-            let inside = set.remove(x);
-            in_scope(flow_from(part, n, i - 1, inside), x)
+            let inside = set.remove(b_at(part, i));
+            into(i - 1, inside)
         }
         10 => {
             let b = i - 1;
             let a = prior(part, b);
             let lacking = first_missing(part, n, prior(part, a), set);
-            let first = flow_from(part, n, a, set);
-            in_branches(lacking, first, flow_from(part, n, b, set))
+            let first = row_through(table, a, set);
+            after_condition(lacking, into_either(first.ok, a, set, b, set))
         }
         11 => {
             let b = i - 1;
             let lacking = first_missing(part, n, prior(part, b), set);
-            in_loop(lacking, flow_from(part, n, b, set), set)
+            after_condition(lacking, into(b, set))
         }
-        12 => {
-            let all = set.union(VarSet::full());
-            plain(all, first_missing(part, n, i - 1, set))
-        }
-        13..=14 => plain(set, first_missing(part, n, i - 1, set)),
-        _ => plain(set, Found::Nothing),
+        12..=14 => ends(first_missing(part, n, i - 1, set)),
+        _ => ends(Found::Nothing),
     }
 }
 
-// The first node of function f's part, of n nodes, that reads a variable without a value.
-pub fn first_lacking(file: &[u8], f: usize, part: &[u8], n: usize) -> Found
+// The first empty read of a part's body, begun with the set.
+fn first_empty(part: &[u8], n: usize, table: &[u64], begun: VarSet) -> Found
+    requires { ⌜ WellFormed (now part) n × TableSays (now part) n (now table) × (1 ≤ n) ⌝ }
+    ensures { λ r. ⌜ r ≡ lacks (statementAt (now (part .entry)) (n - 1)) (has (begun .0)) ⌝ }
+{
+    let mut i = n - 1;
+    let mut set = begun;
+    while 0 < i {
+        let next = descend(part, n, table, i, set);
+        if next.done {
+            return next.found;
+        }
+        i = next.node;
+        set = next.set;
+    }
+    Found::Nothing
+}
+
+// The first node of function f's part, of n nodes, that reads a variable without a value; the table is room for its summaries.
+pub fn first_lacking(file: &[u8], f: usize, part: &[u8], n: usize, table: &mut [u64]) -> Found
     requires laid { ⌜ (12 * (1 + f) + 12 ≤ length (now file)) × (paramsOf (now file) f ≤ mostParameters) ⌝ }
-    requires inside { ⌜ (12 * n ≤ length (now part)) × (1 ≤ n) ⌝ }
-    requires known { ⌜ Known (now part) n ⌝ }
+    requires part { ⌜ WellFormed (now part) n × (1 ≤ n) × (5 * n ≤ length (now table)) ⌝ }
     ensures exact { λ r. ⌜ r ≡ lacks (statementAt (now (part .entry)) (n - 1)) (below (paramsOf (now (file .entry)) f)) ⌝ }
     ensures within { λ r. ⌜ ((i x : ℕ) → r ≡ Found.At i x → i < n) ⌝ }
 {
-    let r = flow_from(part, n, n - 1, VarSet::below(wide(params_of(file, f))));
-    r.found
+    fill(part, n, table);
+    first_empty(part, n, table, VarSet::below(wide(params_of(file, f))))
+}
+
+// Nothing where the body of a part of n nodes returns, else the function; the table is room for its summaries.
+pub fn not_returning(part: &[u8], n: usize, table: &mut [u64]) -> Found
+    requires { ⌜ WellFormed (now part) n × (1 ≤ n) × (5 * n ≤ length (now table)) ⌝ }
+    ensures { λ r. ⌜ r ≡ unless (returns (statementAt (now (part .entry)) (n - 1))) 0 ⌝ }
+{
+    fill(part, n, table);
+    if row_at(table, n - 1).returned {
+        Found::Nothing
+    } else {
+        Found::At(0, 0)
+    }
 }

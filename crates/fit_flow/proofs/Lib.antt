@@ -1,3 +1,3 @@
-pub mod Passing
+pub mod Looking
 pub mod Trees
 pub mod Refs

@@ -12,7 +12,7 @@ use Rattle.spec_language.specs.Statements.{Read, Statement, Nop, Seq, If, prior
 use Rattle.spec_language.specs.Flow.{leaves, missing, lacks, returns}
 use Rattle.spec_language.proofs.Trees.{statement-while}
 use Rattle.spec_machine.specs.File.{unrolled, looped}
-use Rattle.spec_machine.specs.Test.{clear}
+use Rattle.records.specs.Search.{clear}
 use Rattle.fit_flow.specs.declared.Flowed.{Flowed}
 use Rattle.fit_flow.specs.Flowed.{FlowedIs}
 

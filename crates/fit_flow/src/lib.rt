@@ -1,6 +1,9 @@
 // What a statement that waits leaves: which variables hold a value after it, and whether it returns; and what an expression reads.
-use fit_table::needs_at;
-use fit_table::row_at;
+use check_summary::Flowed;
+use check_summary::is_within;
+use check_summary::needs_at;
+use check_summary::row_at;
+use check_summary::row_through;
 use records::nodes::prior;
 use state_words::Ref;
 use varset::VarSet;
@@ -16,38 +19,9 @@ ghost use Rattle.spec_language.specs.Flow.{leaves, returns};
 ghost use Rattle.spec_machine.specs.File.{unrolled, looped, programOf};
 ghost use Rattle.spec_machine.specs.Test.{exprIn, stmtIn, reads, ok};
 ghost use Rattle.state_words.specs.Meaning.{refIs};
-ghost use Rattle.fit_table.specs.Tables.{RowSays, TableSays};
+ghost use Rattle.check_summary.specs.Tables.{TableSays};
 ghost use Rattle.fit_nodes.specs.Part.{Part};
-ghost use Rattle.fit_flow.specs.Flowed.{FlowedIs};
-
-// Whether every read of a statement finds a value, and the variables that have a value after it.
-pub struct Flowed {
-    pub ok: bool,
-    pub left: VarSet,
-}
-
-// Whether each member of one set is one of another.
-fn is_within(inner: VarSet, outer: VarSet) -> bool
-    ensures { λ r. ⌜ (r ≡ true ↔ Sub (has (inner .0)) (has (outer .0))) ⌝ }
-{
-    inner.minus(outer).is_empty()
-}
-
-// How values flow through the statement at node i, by its row.
-fn row_through(table: &[u64], i: usize, set: VarSet) -> Flowed
-    requires { ⌜ 5 * i + 5 ≤ length (now table) ⌝ }
-    ensures { λ r. ⌜ ((s : Statement) → RowSays s (now (table .entry)) i → FlowedIs s (has (set .0)) r) ⌝ }
-{
-    let row = row_at(table, i);
-    let needs = row.needs;
-    let drops = row.drops;
-    let adds = row.adds;
-    let held = is_within(needs, set);
-    Flowed {
-        ok: !row.fails & held,
-        left: set.minus(drops).union(adds),
-    }
-}
+ghost use Rattle.check_summary.specs.Flowed.{FlowedIs};
 
 // How values flow through the seq of the while at node w: its body, then the while.
 fn seq_through(

@@ -1,5 +1,5 @@
 -- The lowest record that fails a test.
-use mathlib.Core.Bool.{Bool}
+use mathlib.Core.Bool.{Bool, true, false}
 use Prim.Native.Nat.{ℕ, zero, suc, _+_}
 use lib.Dec.{ltb}
 use Rattle.varset.specs.Lowest.{pick, lowest}
@@ -28,3 +28,8 @@ firstIn t (suc left) f = orElse (t f) (firstIn t left (suc f))
 -- the place of a record where the test fails
 unfoldable pub unless : Bool → ℕ → Found
 unless b place = pick b Nothing (At place 0)
+
+-- whether a search found nothing
+abbrev pub clear : Found → Bool
+clear (At i x) = false
+clear Nothing = true

@@ -75,27 +75,32 @@ same-sort true true e = refl
 same-sort true false e = e
 same-sort false b e = sym e
 
+-- the body is a statement
+pub body-placed : (t : List ℕ) (n : ℕ) → 1 ≤ n → ((i : ℕ) → i < n → misplaced t n i ≡ false) → isExpression (kindAt t (n - 1)) ≡ false
+unfolding misplaced
+body-placed t n o h =
+    let a = or-false-left (eqb (1 + (n - 1)) n && isExpression (kindAt t (n - 1))) _ (h (n - 1) (omega arith)) in
+    let q : 1 + (n - 1) ≡ n = omega arith in
+    rw (eq-eqb (1 + (n - 1)) n q) at a
+
+-- child k of node i is an expression exactly where its position wants one
+pub child-placed : (t : List ℕ) (n : ℕ) → Sizes t n → ((i : ℕ) → i < n → misplaced t n i ≡ false)
+    → (i k : ℕ) → i < n → k < arityAt t i → isExpression (kindAt t (nth k (children t i))) ≡ wantsExpression (kindAt t i) k
+unfolding misplaced wrongSort children
+child-placed t n ok h i k p q =
+    let c = nth k (children t i) in
+    let b = child-below t n ok i k p q in
+    let a = or-false-right (eqb (1 + c) n && isExpression (kindAt t c)) _ (h c (omega arith)) in
+    let w = some-none (λ j. wrongChild t (kindAt t j) (children t j) c) n a i p in
+    let m : k < length (children t i) = rw (length-walk (sizeAt t) (arityAt t i) (i - 1)) q in
+    same-sort (isExpression (kindAt t c)) (wantsExpression (kindAt t i) k) (right-child t (kindAt t i) (children t i) k m w)
+
 module _ (s : List ℕ) (h : Accepted s) (f : ℕ) (l : f < functions s) where
   abbrev t : List ℕ
   t = partOf s f
 
-  -- the body is a statement
   pub body-sort : isExpression (kindAt t (countOf s f - 1)) ≡ false
-  unfolding misplaced
-  body-sort =
-      let o = parts s h .some f l in
-      let i = countOf s f - 1 in
-      let a = or-false-left (eqb (1 + i) (countOf s f) && isExpression (kindAt t i)) _ (h .nine f i l (omega arith)) in
-      let q : 1 + i ≡ countOf s f = omega arith in
-      rw (eq-eqb (1 + i) (countOf s f) q) at a
+  body-sort = body-placed t (countOf s f) (parts s h .some f l) (λ i p. h .nine f i l p)
 
-  -- child k of node i is an expression exactly where its position wants one
   pub child-sort : (i k : ℕ) → i < countOf s f → k < arityAt t i → isExpression (kindAt t (nth k (children t i))) ≡ wantsExpression (kindAt t i) k
-  unfolding misplaced wrongSort children
-  child-sort i k p q =
-      let c = nth k (children t i) in
-      let b = child-below t (countOf s f) (sizes s h f l) i k p q in
-      let a = or-false-right (eqb (1 + c) (countOf s f) && isExpression (kindAt t c)) _ (h .nine f c l (omega arith)) in
-      let w = some-none (λ j. wrongChild t (kindAt t j) (children t j) c) (countOf s f) a i p in
-      let m : k < length (children t i) = rw (length-walk (sizeAt t) (arityAt t i) (i - 1)) q in
-      same-sort (isExpression (kindAt t c)) (wantsExpression (kindAt t i) k) (right-child t (kindAt t i) (children t i) k m w)
+  child-sort = child-placed t (countOf s f) (sizes s h f l) (λ i p. h .nine f i l p)

@@ -18,11 +18,11 @@ use Rattle.records.specs.Children.{arities, arityOf, arityAt, walk, children}
 use Rattle.records.proofs.Bools.{or-cases}
 use Rattle.spec_language.specs.Sorts.{isExpression, wantsExpression}
 use Rattle.spec_language.specs.Statements.{prior, last, read, readsFrom, readsOf}
-use Rattle.spec_language.specs.Nodes.{total}
+use Rattle.spec_language.specs.Nodes.{total, misplaced}
 use Rattle.spec_language.proofs.Accept.{Accepted}
 use Rattle.spec_language.proofs.Tiles.{Tiles, none, more, Sizes, size-fits, tiled, Each, descend, nested}
 use Rattle.spec_language.proofs.Typings.{nth}
-use Rattle.spec_language.proofs.Positions.{each-nth, sizes, child-sort}
+use Rattle.spec_language.proofs.Positions.{each-nth, sizes, child-placed}
 use Rattle.spec_language.proofs.Flows.{Reads, Listed, reads-listed, listed-reads}
 
 -- ---- children
@@ -216,24 +216,32 @@ nth-each Q (c ∷ cs) h = (
   nth-each Q cs (λ k l. rw (nth-past c cs k (λ e. omega arith)) at (h k (omega arith))),
 )
 
-module _ (s : List ℕ) (h : Accepted s) (f : ℕ) (l : f < functions s) where
-  abbrev t : List ℕ
-  t = partOf s f
-
+module _ (t : List ℕ) (n : ℕ) (ok : Sizes t n) (h : (i : ℕ) → i < n → misplaced t n i ≡ false) where
   -- every node of an expression's subtree is an expression
-  pub expression-tree : (e j : ℕ) → e < countOf s f → isExpression (kindAt t e) ≡ true → j ≤ e → e < j + sizeAt t e → isExpression (kindAt t j) ≡ true
-  expression-tree e j p =
-      descend t (countOf s f) (sizes s h f l) (λ c. isExpression (kindAt t c) ≡ true)
-      (λ i p q. nth-each (λ c. isExpression (kindAt t c) ≡ true) (children t i) (λ k m. child-sort s h f l i k p (arity-of i k m) ∙ expression-wants (kindAt t i) k q)) e j p
+  pub tree-placed : (e j : ℕ) → e < n → isExpression (kindAt t e) ≡ true → j ≤ e → e < j + sizeAt t e → isExpression (kindAt t j) ≡ true
+  tree-placed e j p =
+      descend t n ok (λ c. isExpression (kindAt t c) ≡ true)
+      (λ i p q. nth-each (λ c. isExpression (kindAt t c) ≡ true) (children t i) (λ k m. child-placed t n ok h i k p (arity-of i k m) ∙ expression-wants (kindAt t i) k q)) e j p
     where
       arity-of : (i k : ℕ) → k < length (children t i) → k < arityAt t i
       arity-of i k m = unfold children in (rw (length-walk (sizeAt t) (arityAt t i) (i - 1)) at m)
 
   -- the sort of the child of a node of a known kind that has m before it and j after it
-  pub sort-at : (i kind j m : ℕ) → i < countOf s f → kindAt t i ≡ kind → arityOf kind (aAt t i) ≡ 1 + j + m
+  pub kid-placed : (i kind j m : ℕ) → i < n → kindAt t i ≡ kind → arityOf kind (aAt t i) ≡ 1 + j + m
       → isExpression (kindAt t (back t j (last i))) ≡ wantsExpression kind m
   unfolding arityAt
-  sort-at i kind j m p e a =
+  kid-placed i kind j m p e a =
       let b : arityAt t i ≡ 1 + j + m = rw e a in
-      let w : isExpression (kindAt t (nth m (children t i))) ≡ wantsExpression kind m = rw e at (child-sort s h f l i m p (omega arith)) in
+      let w : isExpression (kindAt t (nth m (children t i))) ≡ wantsExpression kind m = rw e at (child-placed t n ok h i m p (omega arith)) in
       rw (nth-child t i j m b) at w
+
+module _ (s : List ℕ) (h : Accepted s) (f : ℕ) (l : f < functions s) where
+  abbrev t : List ℕ
+  t = partOf s f
+
+  pub expression-tree : (e j : ℕ) → e < countOf s f → isExpression (kindAt t e) ≡ true → j ≤ e → e < j + sizeAt t e → isExpression (kindAt t j) ≡ true
+  expression-tree = tree-placed t (countOf s f) (sizes s h f l) (λ i p. h .nine f i l p)
+
+  pub sort-at : (i kind j m : ℕ) → i < countOf s f → kindAt t i ≡ kind → arityOf kind (aAt t i) ≡ 1 + j + m
+      → isExpression (kindAt t (back t j (last i))) ≡ wantsExpression kind m
+  sort-at = kid-placed t (countOf s f) (sizes s h f l) (λ i p. h .nine f i l p)

@@ -6,6 +6,7 @@ use Prim.Native.Nat.{ℕ, _+_, _^_}
 use native.Mathlib.Omega.{arith}
 use lib.ListN.{length}
 use Rattle.varset.specs.Sets.{Set, with, both}
+use Rattle.records.specs.Search.{clear}
 use Rattle.records.specs.declared.Found.{Found}
 use Rattle.records.specs.declared.Found.the-variants.{At, Nothing}
 use Rattle.spec_language.specs.Flow.{leaves, missing, lacks}
@@ -14,7 +15,7 @@ use Rattle.spec_machine.specs.Program.{Operation, op, fn, Ref, Program, 
 use Rattle.spec_machine.specs.Machine.{Frame, gather, and, wait, branch, check, Control, val, eval, exec, Saved, saved, State, exception, main, returned, running}
 use Rattle.spec_machine.specs.Fit.{isConst, IsExpr, IsStmt, AllExpr, KnownOperation, held, comes, comesFrom, HoldsTyped, AllHoldTyped, TakesNone, Takes, ControlOver, ReadsNodes, Flows, FlowsFrom, Callers, Proper, WithinLimits, IsWord, AllWords, FramesInWords, ControlInWord, SavedInWords, InWords, Fit, callerLimit, frameLimit, savedFrameCount}
 use Rattle.spec_machine.specs.Run.{withinLimits}
-use Rattle.spec_machine.specs.Test.{areTy, clear, exprIn, stmtIn, exprsIn, knownOperation, holdsTyped, allHoldTyped, takesNone, takes, controlOver, readsNodes, flows, flowsFrom, callers, isWord, allWords, framesInWords, controlInWord, savedInWords, inWords, proper, fit}
+use Rattle.spec_machine.specs.Test.{areTy, exprIn, stmtIn, exprsIn, knownOperation, holdsTyped, allHoldTyped, takesNone, takes, controlOver, readsNodes, flows, flowsFrom, callers, isWord, allWords, framesInWords, controlInWord, savedInWords, inWords, proper, fit}
 use Rattle.spec_machine.proofs.Says.{Says, yes-unit, never, no-bottom, itself, negated, two, three, four, six, below, at-most, same}
 
 pub types-say : (ts us : List Ty) → Says (areTy ts us) (ts ≡ us)

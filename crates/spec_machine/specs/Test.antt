@@ -6,8 +6,7 @@ use lib.Dec.{eqb, ltb}
 use lib.ListN.{length}
 use Rattle.varset.specs.Sets.{Set, with, both, either, below}
 use Rattle.records.specs.Format.{mostVariables}
-use Rattle.records.specs.declared.Found.{Found}
-use Rattle.records.specs.declared.Found.the-variants.{At, Nothing}
+use Rattle.records.specs.Search.{clear}
 use Rattle.spec_language.specs.Flow.{leaves, missing, lacks}
 use Rattle.spec_machine.specs.Values.{Ty, tInt, tBool, Value, nothing, int, truth, typeV}
 use Rattle.spec_machine.specs.Program.{Operation, op, fn, Ref, Program, owns, typeN, varTypes, typeOfVar, wants, gives}
@@ -21,11 +20,6 @@ areTy [] [] = true
 areTy [] (u ∷ us) = false
 areTy (t ∷ ts) [] = false
 areTy (t ∷ ts) (u ∷ us) = eqb t u && areTy ts us
-
--- a search that found nothing
-abbrev pub clear : Found → Bool
-clear (At i x) = false
-clear Nothing = true
 
 -- rule 13 of an expression, and of a statement
 abbrev pub reads : Program → ℕ → ℕ → Set → Bool

@@ -1,4 +1,4 @@
-use Rattle.check_flow.proofs.Walks.{lacking-within}
+use Rattle.check_flow.proofs.Descending.{lacking-within}
 use Rattle.spec_language.specs.Flow.{lacks}
 use Rattle.spec_language.specs.Statements.{statementAt}
 use Rattle.records.specs.Fields.{paramsOf}
@@ -9,8 +9,8 @@ use borrow.Author.Needs.{needs}
 use Rattle.check_flow.proofs.first_lacking.Statement.{statement}
 use Rattle.check_flow.proofs.first_lacking.Tie as tie
 
-sub-flow-from : tie.Need-sub-flow-from
-sub-flow-from c = search needs
+fill-requires : tie.Need-fill-requires
+fill-requires c κs = search needs
 
 params-of-requires : tie.Need-params-of-requires
 params-of-requires c κs = search needs
@@ -21,19 +21,23 @@ wide-requires c κs = search needs
 below-requires : tie.Need-below-requires
 below-requires c κs = search needs
 
-flow-from-requires : tie.Need-flow-from-requires
-flow-from-requires c κs = search needs
+first-empty-requires : tie.Need-first-empty-requires
+first-empty-requires c κs = search needs
+
+same-length : tie.Need-same-length
+same-length c = search needs
 
 returns : tie.Need-returns
-returns c = let e : c .flow-from .result .found ≡ lacks (statementAt (c .before .before .before .before .before .before .args .part .now) (c .before .before .before .before .before .before .args .n - 1)) (below (paramsOf (c .before .before .before .before .before .before .args .file .now) (c .before .before .before .before .before .before .args .f))) = c .flow-from .ensures .found ∙ rw (c .before .below .ensures, c .before .before .wide .ensures .0, c .before .before .before .params-of .ensures) in (e, lacking-within _ (c .before .before .before .before .before .before .pre .1 .1) (search needs) e)
+returns c = let e : c .first-empty .result ≡ lacks (statementAt (c .before .before .before .before .before .before .before .before .before .before .before .before .args .part .now) (c .before .before .before .before .before .before .before .before .before .before .before .before .args .n - 1)) (below (paramsOf (c .before .before .before .before .before .before .before .before .before .before .before .before .args .file .now) (c .before .before .before .before .before .before .before .before .before .before .before .before .args .f))) = c .first-empty .ensures ∙ rw (c .before .below .ensures, c .before .before .wide .ensures .0, c .before .before .before .params-of .ensures) in (e, lacking-within _ (c .before .before .before .before .before .before .before .before .before .before .before .before .pre .1 .0 .nodes) (c .before .before .before .before .before .before .before .before .before .before .before .before .pre .1 .1) e)
 
 pub first-lacking-spec : {M : Type 1} → statement M
 first-lacking-spec =
     tie.close
     (tie.spec
-    sub-flow-from
+    fill-requires
     params-of-requires
     wide-requires
     below-requires
-    flow-from-requires
+    first-empty-requires
+    same-length
     returns)

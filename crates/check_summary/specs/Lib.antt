@@ -1,0 +1,4 @@
+pub mod Summary
+pub mod Rows
+pub mod Tables
+pub mod Flowed

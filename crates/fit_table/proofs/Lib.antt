@@ -1,8 +1,0 @@
-pub mod SetTables
-pub mod SummaryParts
-pub mod Fails
-pub mod Ranges
-pub mod Filling
-pub mod Arms
-pub mod Stored
-pub mod Looking
