@@ -85,12 +85,12 @@ module _ (s : List ℕ) (f : ℕ) (t : List ℕ) (n : ℕ) where
       → (last < i₀ → Judged s f t n d last code r w) → size ≡ sizeAt t last → has late ≡ less (has r) begun → (e ≡ true → has late ≡ none)
       → (8 < q → (eqb size n && leb 3 code) ≡ true) × (13 < q → e ≡ true) × (14 < q → eqb code 4 ≡ true) × (8 ≤ q) × (q ≤ 15) → Passed s f t n begun q
   unfolding sizeOk misplaced mistyped less
-  all-below {d} {codes} {reads} {sets} {i₀} {last} {size} {code} {r} {w} {q} late begun e one all g₀ at jb x y v z =
+  all-below {d} {codes} {reads} {sets} {i₀} {last} {size} {code} {r} {w} {q} late begun e one all g₀ p jb x y v z =
       let g : (k : ℕ) → k < n → Judged s f t n d k (getD codes k 0) (getD reads k 0) (getD sets k 0) = λ k l. g₀ .at k (omega arith) in
       let full : 8 < q → size ≡ n = λ h. eqb-true size n (and-left (eqb size n) (leb 3 code) (z .0 h)) in
       let statement : 8 < q → 3 ≤ code = λ h. leb-true 3 code (and-right (eqb size n) (leb 3 code) (z .0 h)) in
       let j = jb (omega arith) in
-      let m : Means (statementAt t (n - 1)) d code r w = rw at at (j .means) in
+      let m : Means (statementAt t (n - 1)) d code r w = rw p at (j .means) in
       record {
         sized =
             λ h i l. let k = g i l in
@@ -98,7 +98,7 @@ module _ (s : List ℕ) (f : ℕ) (t : List ℕ) (n : ℕ) where
             (λ b. let w : i ≡ last = omega (arith, eqb-true (1 + i) n b) in rw (b, w, eq-eqb (sizeAt t last) n (sym x ∙ full h)))
             (λ b. rw b));
         placed =
-            λ h i l. let none-wrong = some-none (λ p. wrongChild t (kindAt t p) (children t p) i) n (λ p h. wrong-none p i (children t p) (g p h .kids)) in
+            λ h i l. let none-wrong = some-none (λ k. wrongChild t (kindAt t k) (children t k) i) n (λ k h. wrong-none k i (children t k) (g k h .kids)) in
             rw none-wrong (by (eqb (1 + i) n)
             (λ b. let w : i ≡ last = omega (arith, eqb-true (1 + i) n b) in rw (b, w, j .sort, le-ltb code 3 (statement (omega arith))))
             (λ b. rw b));

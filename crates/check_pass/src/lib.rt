@@ -129,7 +129,7 @@ fn keep(codes: &mut [u8], reads: &mut [u64], sets: &mut [u64], i: usize, e: Effe
     sets[i] = e.sets.0;
 }
 
-// The least question that may fail in a part: 8 where it is not whole, 13 where it may read too early, 14 where it need not return; 15 where none may.
+// The least question that may fail in a part: 8 unless it is whole, 13 unless its reads are held, 14 unless it returns, else 15.
 fn least(whole: bool, held: bool, returning: bool) -> u8
     ensures { λ r. ⌜ (8 < r → whole ≡ true) × (13 < r → held ≡ true) × (14 < r → returning ≡ true) × (8 ≤ r) × (r ≤ 15) ⌝ }
 {
@@ -145,7 +145,7 @@ fn least(whole: bool, held: bool, returning: bool) -> u8
     15
 }
 
-// The least question from 8 on, but for 10, that may fail in a part of n nodes; 15 where none may.
+// The least question from 8 to 14, but for 10, that may fail in a part of n nodes; 15 where none may.
 fn floor(
     file: &[u8],
     f: usize,
@@ -181,7 +181,7 @@ fn floor(
     least(whole, held, body.code == 4)
 }
 
-// The least question from 7 on that may fail in the part of function f, of n nodes; 15 where none may.
+// The least question from 7 to 14 that may fail in the part of function f, of n nodes; 15 where none may.
 pub fn part_floor(
     file: &[u8],
     f: usize,
