@@ -2,6 +2,7 @@
 use mathlib.Core.Path.{_≡_}
 use mathlib.Core.List.{List}
 use Prim.Native.Nat.{ℕ, _*_, _-_, _≤_, _<_}
+use native.Mathlib.Omega.{arith}
 use lib.ListN.{length, getD}
 use Rattle.varset.specs.Sets.{Set, below}
 use Rattle.records.specs.Fields.{functions, paramsOf}
@@ -12,7 +13,7 @@ use Rattle.spec_language.proofs.Facts.{named, arguments, calls}
 use Rattle.spec_language.proofs.Accept.{all-pass, pass-all, none-fails, none-unless, seven-to-fourteen}
 use Rattle.check_pass.specs.Surveyed.{Surveyed}
 use Rattle.check_pass.specs.Judged.{PartFacts}
-use Rattle.check_pass.specs.Passed.{Passed, Clear}
+use Rattle.check_pass.specs.Passed.{Passed, ClearBelow}
 
 module _ (s : List ℕ) (f : ℕ) (t : List ℕ) (n : ℕ) where
   pub part-known : {decls : List ℕ} → Laid s → f < functions s → 12 * n ≤ length t → Surveyed s f t n decls → PartFacts s f t n decls
@@ -20,8 +21,9 @@ module _ (s : List ℕ) (f : ℕ) (t : List ℕ) (n : ℕ) where
       let seven = all-pass (nodeOk s f t) n (k .seven) in
       record { laid = g; function = l; inside = h; named = named s f t n g l seven; arguments = arguments s f t n g l seven; calls = calls s f t n g l seven; told = k .told }
 
-  pub clear : {begun : Set} {decls : List ℕ} → begun ≡ below (paramsOf s f) → Surveyed s f t n decls → Passed s f t n begun → Clear s f t n
+  pub clear : {begun : Set} {decls : List ℕ} {r : ℕ} → begun ≡ below (paramsOf s f) → Surveyed s f t n decls → Passed s f t n begun r → r ≤ 15 → ClearBelow s f t n r
   unfolding answers
-  clear b k p =
-      seven-to-fourteen (λ k. getD (answers s f t n) (k - 7) Nothing ≡ Nothing) (k .seven) (pass-all (sizeOk t n) n (p .sized)) (none-fails (misplaced t n) n (p .placed)) (k .ten)
-      (none-fails (outside s f t n) n (p .scoped)) (none-fails (mistyped s f t n) n (p .typed)) (rw (← b) (p .reading)) (none-unless _ 0 (p .returning))
+  clear {begun} {decls} {r} b k p top q low high =
+      seven-to-fourteen (λ m. m < r → getD (answers s f t n) (m - 7) Nothing ≡ Nothing) (λ h. k .seven) (λ h. pass-all (sizeOk t n) n (p .sized h)) (λ h. none-fails (misplaced t n) n (p .placed h))
+      (λ h. k .ten) (λ h. none-fails (outside s f t n) n (p .scoped h)) (λ h. none-fails (mistyped s f t n) n (p .typed h)) (λ h. rw (← b) (p .reading h)) (λ h. none-unless _ 0 (p .returning h))
+      q low (omega arith) high

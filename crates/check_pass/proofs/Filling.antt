@@ -5,10 +5,10 @@ use mathlib.Core.List.{List, [], _∷_}
 use Prim.Native.Nat.{ℕ, zero, suc, _+_, _-_, _≤_, _<_}
 use native.Mathlib.Omega.{arith}
 use native.Mathlib.Decide.{decLt}
-use lib.Dec.{eqb}
+use lib.Dec.{eqb, leb}
 use lib.ListN.{getD, set, length, length-set}
 use lib.Seq.{getD-set-same, getD-set-other}
-use borrow.Author.Tests.{eqb-true, eq-eqb, le-leb}
+use borrow.Author.Tests.{eqb-true, eq-eqb, le-leb, leb-true, le-ltb}
 use Rattle.varset.specs.Sets.{Set, has, none, less, Sub}
 use Rattle.records.specs.Fields.{kindAt, sizeAt}
 use Rattle.records.specs.Children.{children}
@@ -70,33 +70,42 @@ module _ (s : List ℕ) (f : ℕ) (t : List ℕ) (n : ℕ) where
   agree-all i [] k = refl
   agree-all i (c ∷ cs) k = rw (k .0 .type, agree-all i cs (k .1))
 
-  pub all-pass : {d : Set} {codes reads sets : List ℕ} {i₀ last size code r w : ℕ} (late : ℕ) (begun : Set) (e : Bool) → 1 ≤ n → n ≤ i₀ → Filled s f t n d i₀ codes reads sets → last ≡ n - 1
+  pub none-below : (begun : Set) → Passed s f t n begun 8
+  none-below begun =
+      record {
+        sized = λ h. absurd (omega arith);
+        placed = λ h. absurd (omega arith);
+        scoped = λ h. absurd (omega arith);
+        typed = λ h. absurd (omega arith);
+        reading = λ h. absurd (omega arith);
+        returning = λ h. absurd (omega arith);
+      }
+
+  pub all-below : {d : Set} {codes reads sets : List ℕ} {i₀ last size code r w q : ℕ} (late : ℕ) (begun : Set) (e : Bool) → 1 ≤ n → n ≤ i₀ → Filled s f t n d i₀ codes reads sets → last ≡ n - 1
       → (last < i₀ → Judged s f t n d last code r w) → size ≡ sizeAt t last → has late ≡ less (has r) begun → (e ≡ true → has late ≡ none)
-      → ((eqb code 4 && eqb size n) && e) ≡ true → Passed s f t n begun
+      → (8 < q → (eqb size n && leb 3 code) ≡ true) × (13 < q → e ≡ true) × (14 < q → eqb code 4 ≡ true) × (8 ≤ q) × (q ≤ 15) → Passed s f t n begun q
   unfolding sizeOk misplaced mistyped less
-  all-pass {d} {codes} {reads} {sets} {i₀} {last} {size} {code} {r} {w} late begun e one all g₀ q jb x y v z =
+  all-below {d} {codes} {reads} {sets} {i₀} {last} {size} {code} {r} {w} {q} late begun e one all g₀ p jb x y v z =
       let g : (k : ℕ) → k < n → Judged s f t n d k (getD codes k 0) (getD reads k 0) (getD sets k 0) = λ k l. g₀ .at k (omega arith) in
-      let u = and-left (eqb code 4 && eqb size n) e z in
-      let four : code ≡ 4 = eqb-true code 4 (and-left (eqb code 4) (eqb size n) u) in
-      let full : size ≡ n = eqb-true size n (and-right (eqb code 4) (eqb size n) u) in
-      let none-late : has late ≡ none = v (and-right (eqb code 4 && eqb size n) e z) in
+      let full : 8 < q → size ≡ n = λ h. eqb-true size n (and-left (eqb size n) (leb 3 code) (z .0 h)) in
+      let statement : 8 < q → 3 ≤ code = λ h. leb-true 3 code (and-right (eqb size n) (leb 3 code) (z .0 h)) in
       let j = jb (omega arith) in
-      let m : Means (statementAt t (n - 1)) d code r w = rw q at (j .means) in
+      let m : Means (statementAt t (n - 1)) d code r w = rw p at (j .means) in
       record {
         sized =
-            λ i l. let k = g i l in
+            λ h i l. let k = g i l in
             rw (eq-eqb (sizeAt t i) _ (k .size), le-leb _ i (k .inside)) (by (eqb (1 + i) n)
-            (λ b. let w : i ≡ last = omega (arith, eqb-true (1 + i) n b) in rw (b, w, eq-eqb (sizeAt t last) n (sym x ∙ full)))
+            (λ b. let w : i ≡ last = omega (arith, eqb-true (1 + i) n b) in rw (b, w, eq-eqb (sizeAt t last) n (sym x ∙ full h)))
             (λ b. rw b));
         placed =
-            λ i l. let none-wrong = some-none (λ p. wrongChild t (kindAt t p) (children t p) i) n (λ p h. wrong-none p i (children t p) (g p h .kids)) in
+            λ h i l. let none-wrong = some-none (λ k. wrongChild t (kindAt t k) (children t k) i) n (λ k h. wrong-none k i (children t k) (g k h .kids)) in
             rw none-wrong (by (eqb (1 + i) n)
-            (λ b. let w : i ≡ last = omega (arith, eqb-true (1 + i) n b) in rw (b, w, j .sort, four))
+            (λ b. let w : i ≡ last = omega (arith, eqb-true (1 + i) n b) in rw (b, w, j .sort, le-ltb code 3 (statement (omega arith))))
             (λ b. rw b));
-        scoped = λ i l. g i l .scoped;
-        typed = λ i l. rw (agree-all i (children t i) (g i l .kids));
-        reading = m .reading begun (λ k h. by (begun k) (λ b. b) (λ b. empty-member k (rw (← none-late, y) (and-both (has r k) _ h (rw b)))));
-        returning = m .returning four;
+        scoped = λ h i l. g i l .scoped;
+        typed = λ h i l. rw (agree-all i (children t i) (g i l .kids));
+        reading = λ h. m .reading begun (λ k l. by (begun k) (λ b. b) (λ b. empty-member k (rw (← v (z .1 h), y) (and-both (has r k) _ l (rw b)))));
+        returning = λ h. m .returning (eqb-true code 4 (z .2 h));
       }
 
 pub kept-length : (xs : List ℕ) (i v : ℕ) {ys : List ℕ} {m : ℕ} → ys ≡ set xs i v → length xs ≡ m → length ys ≡ m

@@ -10,15 +10,15 @@ use Rattle.spec_language.specs.Statements.{statementAt}
 use Rattle.spec_language.specs.Flow.{lacks, returns}
 use Rattle.spec_language.specs.Nodes.{sizeOk, misplaced, outside, mistyped, answers}
 
--- a part of n nodes passes questions 8, 9 and 11 to 14, begun with these variables
-pub record Passed (s : List ℕ) (f : ℕ) (t : List ℕ) (n : ℕ) (begun : Set) : Type 0 where
-  pub sized : (i : ℕ) → i < n → sizeOk t n i ≡ true
-  pub placed : (i : ℕ) → i < n → misplaced t n i ≡ false
-  pub scoped : (i : ℕ) → i < n → outside s f t n i ≡ false
-  pub typed : (i : ℕ) → i < n → mistyped s f t n i ≡ false
-  pub reading : lacks (statementAt t (n - 1)) begun ≡ Nothing
-  pub returning : returns (statementAt t (n - 1)) ≡ true
+-- a part of n nodes, begun with these variables, passes those of questions 8, 9 and 11 to 14 that are below r
+pub record Passed (s : List ℕ) (f : ℕ) (t : List ℕ) (n : ℕ) (begun : Set) (r : ℕ) : Type 0 where
+  pub sized : 8 < r → (i : ℕ) → i < n → sizeOk t n i ≡ true
+  pub placed : 9 < r → (i : ℕ) → i < n → misplaced t n i ≡ false
+  pub scoped : 11 < r → (i : ℕ) → i < n → outside s f t n i ≡ false
+  pub typed : 12 < r → (i : ℕ) → i < n → mistyped s f t n i ≡ false
+  pub reading : 13 < r → lacks (statementAt t (n - 1)) begun ≡ Nothing
+  pub returning : 14 < r → returns (statementAt t (n - 1)) ≡ true
 
--- questions 7 to 14 find nothing in the part of function f, of n nodes
-abbrev pub Clear : List ℕ → ℕ → List ℕ → ℕ → Type 0
-Clear s f t n = (q : ℕ) → 7 ≤ q → q < 15 → getD (answers s f t n) (q - 7) Nothing ≡ Nothing
+-- the questions from 7 to before r find nothing in the part of function f, of n nodes
+abbrev pub ClearBelow : List ℕ → ℕ → List ℕ → ℕ → ℕ → Type 0
+ClearBelow s f t n r = (q : ℕ) → 7 ≤ q → q < r → getD (answers s f t n) (q - 7) Nothing ≡ Nothing

@@ -1,4 +1,4 @@
-// The pass over the nodes of a part, kind by kind: passed, or not known.
+// The pass over the nodes of a part, kind by kind: the least question that may fail in it.
 mod nodes;
 pub mod survey;
 
@@ -25,7 +25,7 @@ ghost use Rattle.records.specs.Format.{mostNodes};
 ghost use Rattle.varset.specs.Sets.{has};
 ghost use Rattle.records.specs.Fields.{functions, kindAt};
 ghost use Rattle.records.specs.Parts.{Laid};
-ghost use Rattle.check_pass.specs.Passed.{Passed, Clear};
+ghost use Rattle.check_pass.specs.Passed.{Passed, ClearBelow};
 ghost use Rattle.check_pass.specs.Judged.{Judged, PartFacts, AtNode};
 
 // A call.
@@ -129,8 +129,24 @@ fn keep(codes: &mut [u8], reads: &mut [u64], sets: &mut [u64], i: usize, e: Effe
     sets[i] = e.sets.0;
 }
 
-// Whether the pass over a part of n nodes shows that it passes.
-fn passes(
+// The least question that may fail in a part: 8 unless it is whole, 13 unless its reads are held, 14 unless it returns, else 15.
+fn least(whole: bool, held: bool, returning: bool) -> u8
+    ensures { λ r. ⌜ (8 < r → whole ≡ true) × (13 < r → held ≡ true) × (14 < r → returning ≡ true) × (8 ≤ r) × (r ≤ 15) ⌝ }
+{
+    if !whole {
+        return 8;
+    }
+    if !held {
+        return 13;
+    }
+    if !returning {
+        return 14;
+    }
+    15
+}
+
+// The least question from 8 to 14, but for 10, that may fail in a part of n nodes; 15 where none may.
+fn floor(
     file: &[u8],
     f: usize,
     part: &[u8],
@@ -140,10 +156,10 @@ fn passes(
     codes: &mut [u8],
     reads: &mut [u64],
     sets: &mut [u64],
-) -> bool
+) -> u8
     requires inside { ⌜ PartFacts (now file) f (now part) n (now decls) × (1 ≤ n) × (n ≤ mostNodes) ⌝ }
     requires room { ⌜ (n ≤ length (now codes)) × (n ≤ length (now reads)) × (n ≤ length (now sets)) ⌝ }
-    ensures shown { λ r. ⌜ (r ≡ true → Passed (now (file .entry)) f (now (part .entry)) n (has (begun .0))) ⌝ }
+    ensures shown { λ r. ⌜ Passed (now (file .entry)) f (now (part .entry)) n (has (begun .0)) r × (8 ≤ r) × (r ≤ 15) ⌝ }
     ensures room { λ r. ⌜ (length (now (codes .exit)) ≡ length (now (codes .entry))) × (length (now (reads .exit)) ≡ length (now (reads .entry))) × (length (now (sets .exit)) ≡ length (now (sets .entry))) ⌝ }
 {
     let mut seen = VarSet::empty();
@@ -152,7 +168,7 @@ fn passes(
         seen = check_effects::with_decl(part, i, seen);
         let e = node_at(file, f, part, n, decls, codes, reads, sets, seen, i);
         if e.code == TYPE_UNSET {
-            return false;
+            return 8;
         }
         keep(codes, reads, sets, i, e);
         i += 1;
@@ -160,11 +176,13 @@ fn passes(
     let last = n - 1;
     let body = nodes::effect_of(codes, reads, sets, last);
     let late = body.reads;
-    (body.code == 4) & (size_at(part, last) == n) & late.minus(begun).is_empty()
+    let whole = (size_at(part, last) == n) & (3 <= body.code);
+    let held = late.minus(begun).is_empty();
+    least(whole, held, body.code == 4)
 }
 
-// Whether the part of function f, of n nodes, is shown to pass questions 7 to 14.
-pub fn part_passes(
+// The least question from 7 to 14 that may fail in the part of function f, of n nodes; 15 where none may.
+pub fn part_floor(
     file: &[u8],
     f: usize,
     part: &[u8],
@@ -172,17 +190,17 @@ pub fn part_passes(
     codes: &mut [u8],
     reads: &mut [u64],
     sets: &mut [u64],
-) -> bool
+) -> u8
     requires laid { ⌜ Laid (now file) × (f < functions (now file)) ⌝ }
     requires inside { ⌜ (12 * n ≤ length (now part)) × (1 ≤ n) × (n ≤ mostNodes) ⌝ }
     requires room { ⌜ (n ≤ length (now codes)) × (n ≤ length (now reads)) × (n ≤ length (now sets)) ⌝ }
-    ensures clear { λ r. ⌜ (r ≡ true → Clear (now (file .entry)) f (now (part .entry)) n) ⌝ }
+    ensures clear { λ r. ⌜ ClearBelow (now (file .entry)) f (now (part .entry)) n r × (7 ≤ r) × (r ≤ 15) ⌝ }
     ensures room { λ r. ⌜ (length (now (codes .exit)) ≡ length (now (codes .entry))) × (length (now (reads .exit)) ≡ length (now (reads .entry))) × (length (now (sets .exit)) ≡ length (now (sets .entry))) ⌝ }
 {
     let mut decls = [0usize; VARIABLE_ENTRIES];
     if !crate::survey::survey_part(file, f, part, n, &mut decls) {
-        return false;
+        return 7;
     }
     let begun = VarSet::below(wide(params_of(file, f)));
-    passes(file, f, part, n, &decls, begun, codes, reads, sets)
+    floor(file, f, part, n, &decls, begun, codes, reads, sets)
 }

@@ -1,16 +1,15 @@
 use Rattle.spec_language.specs.Scopes.{usesVariable}
 use Rattle.spec_language.specs.Known.{namesVariable}
 use Rattle.varset.specs.Sets.{has}
-use mathlib.Core.Bool.{false≢true}
 use mathlib.Core.Path.{_≡_, refl}
 use lib.ListN.{length}
 use Prim.Native.Nat.{_-_, _≤_}
-use Rattle.check_pass.proofs.Filling.{filled-none, filled-more, filled-next, all-pass, kept-length}
+use Rattle.check_pass.proofs.Filling.{filled-none, filled-more, filled-next, none-below, all-below, kept-length}
 use Rattle.check_pass.specs.Judged.{Filled}
 use borrow.Author.Needs.{needs}
 use native.Mathlib.Omega.{arith}
-use Rattle.check_pass.proofs.passes.Statement.{statement}
-use Rattle.check_pass.proofs.passes.Tie as tie
+use Rattle.check_pass.proofs.floor.Statement.{statement}
+use Rattle.check_pass.proofs.floor.Tie as tie
 
 abbrev Inv-loop : tie.InvT-loop
 Inv-loop file f part n decls begun codes₀ reads₀ sets₀ declared₀ i₀ codes reads sets declared i = (i ≤ n) × ((length codes ≡ length codes₀) × (length reads ≡ length reads₀) × (length sets ≡ length sets₀)) × Filled file f part n (has (declared .0)) i codes reads sets
@@ -41,7 +40,7 @@ same-length-3 : tie.Need-same-length-3 Inv-loop μ-loop
 same-length-3 c = c .before .before .before .before .before .before .before .before .loop .inv .1 .2
 
 returns : tie.Need-returns Inv-loop μ-loop
-returns c = (λ z. absurd (false≢true z), c .before .before .before .before .before .before .before .before .loop .inv .1)
+returns c = ((none-below _ _ _ _ _, omega arith, omega arith), c .before .before .before .before .before .before .before .before .loop .inv .1)
 
 keep-requires : tie.Need-keep-requires Inv-loop μ-loop
 keep-requires c κs = (omega (arith, c .before .before .before .before .before .before .before .before .before .before .loop-test .taken, c .before .before .before .before .before .before .before .before .before .before .before .loop .inv .1 .0, c .before .before .before .before .before .before .before .before .before .before .before .before .before .before .before .before .before .before .pre .1 .0), omega (arith, c .before .before .before .before .before .before .before .before .before .before .loop-test .taken, c .before .before .before .before .before .before .before .before .before .before .before .loop .inv .1 .1, c .before .before .before .before .before .before .before .before .before .before .before .before .before .before .before .before .before .before .pre .1 .1), omega (arith, c .before .before .before .before .before .before .before .before .before .before .loop-test .taken, c .before .before .before .before .before .before .before .before .before .before .before .loop .inv .1 .2, c .before .before .before .before .before .before .before .before .before .before .before .before .before .before .before .before .before .before .pre .1 .2))
@@ -62,7 +61,7 @@ effect-of-requires : tie.Need-effect-of-requires Inv-loop μ-loop
 effect-of-requires c κs = (omega (arith, c .before .before .before .before .before .before .before .before .before .before .before .pre .0 .1, c .before .before .before .before .loop .inv .1 .0, c .before .before .before .before .before .before .before .before .before .before .before .pre .1 .0), omega (arith, c .before .before .before .before .before .before .before .before .before .before .before .pre .0 .1, c .before .before .before .before .loop .inv .1 .1, c .before .before .before .before .before .before .before .before .before .before .before .pre .1 .1), omega (arith, c .before .before .before .before .before .before .before .before .before .before .before .pre .0 .1, c .before .before .before .before .loop .inv .1 .2, c .before .before .before .before .before .before .before .before .before .before .before .pre .1 .2))
 
 size-at-requires : tie.Need-size-at-requires Inv-loop μ-loop
-size-at-requires c κs = omega (arith, c .before .before .before .before .before .before .before .before .before .before .before .before .before .before .pre .0 .0 .inside, c .before .before .before .before .before .before .before .before .before .before .before .before .before .before .pre .0 .1)
+size-at-requires c κs = omega (arith, c .before .before .before .before .before .before .before .before .before .before .before .before .before .pre .0 .0 .inside, c .before .before .before .before .before .before .before .before .before .before .before .before .before .pre .0 .1)
 
 minus-requires : tie.Need-minus-requires Inv-loop μ-loop
 minus-requires c κs = search needs
@@ -70,20 +69,23 @@ minus-requires c κs = search needs
 is-empty-requires : tie.Need-is-empty-requires Inv-loop μ-loop
 is-empty-requires c κs = search needs
 
+least-requires : tie.Need-least-requires Inv-loop μ-loop
+least-requires c κs = search needs
+
 same-length-4 : tie.Need-same-length-4 Inv-loop μ-loop
-same-length-4 c = c .before .before .before .before .before .before .before .before .before .before .loop .inv .1 .0
+same-length-4 c = c .before .before .before .before .before .before .before .before .before .before .before .before .loop .inv .1 .0
 
 same-length-5 : tie.Need-same-length-5 Inv-loop μ-loop
-same-length-5 c = c .before .before .before .before .before .before .before .before .before .before .loop .inv .1 .1
+same-length-5 c = c .before .before .before .before .before .before .before .before .before .before .before .before .loop .inv .1 .1
 
 same-length-6 : tie.Need-same-length-6 Inv-loop μ-loop
-same-length-6 c = c .before .before .before .before .before .before .before .before .before .before .loop .inv .1 .2
+same-length-6 c = c .before .before .before .before .before .before .before .before .before .before .before .before .loop .inv .1 .2
 
 returns-2 : tie.Need-returns-2 Inv-loop μ-loop
-returns-2 c = (λ z. all-pass _ _ _ _ _ _ _ (c .before .before .before .before .before .before .before .before .before .before .before .before .before .before .before .before .before .pre .0 .1) (omega (arith, c .before .before .before .before .before .before .before .before .before .loop-test .left)) (c .before .before .before .before .before .before .before .before .before .before .loop .inv .2) refl (c .before .before .before .before .before .effect-of .ensures _ _ _ _ _ _ (c .before .before .before .before .before .before .before .before .before .before .loop .inv .2)) (c .before .before .size-at .ensures .0) (c .before .minus .ensures) (c .is-empty .ensures .0) z, c .before .before .before .before .before .before .before .before .before .before .loop .inv .1)
+returns-2 c = ((all-below _ _ _ _ _ _ _ (c .before .before .before .before .before .before .before .before .before .before .before .before .before .before .before .before .before .before .before .pre .0 .1) (omega (arith, c .before .before .before .before .before .before .before .before .before .before .before .loop-test .left)) (c .before .before .before .before .before .before .before .before .before .before .before .before .loop .inv .2) refl (c .before .before .before .before .before .before .before .effect-of .ensures _ _ _ _ _ _ (c .before .before .before .before .before .before .before .before .before .before .before .before .loop .inv .2)) (c .before .before .before .before .before .size-at .ensures .0) (c .before .before .before .minus .ensures) (c .before .before .is-empty .ensures .0) (c .least .ensures), c .least .ensures .3, c .least .ensures .4), c .before .before .before .before .before .before .before .before .before .before .before .before .loop .inv .1)
 
-pub passes-spec : {M : Type 1} → statement M
-passes-spec =
+pub floor-spec : {M : Type 1} → statement M
+floor-spec =
     tie.close
     (tie.spec
     Inv-loop
@@ -105,6 +107,7 @@ passes-spec =
     size-at-requires
     minus-requires
     is-empty-requires
+    least-requires
     same-length-4
     same-length-5
     same-length-6
