@@ -1,6 +1,7 @@
--- The walk over the parts that pass.
+-- The walk over the parts that pass up to a question.
 use mathlib.Core.Path.{_≡_}
 use mathlib.Core.List.{List}
+use mathlib.Core.Logic.{_⊎_, inl, inr}
 use Prim.Native.Nat.{ℕ, _+_, _*_, _-_, _≤_, _<_}
 use native.Mathlib.Omega.{arith}
 use native.Mathlib.Decide.{decLt}
@@ -8,25 +9,29 @@ use lib.ListN.{length, take, drop}
 use Rattle.records.specs.Fields.{functions, countOf}
 use Rattle.records.specs.Parts.{startOf, partOf, Laid}
 use Rattle.records.proofs.PartWalks.{part-taken, part-length, part-fits}
-use Rattle.spec_language.specs.Check.{accepted, partQuestions, firstRefusal}
-use Rattle.spec_language.proofs.Accept.{none-asked, asked-part}
-use Rattle.check_pass.specs.Passed.{Clear}
-use Rattle.check_file.specs.Stages.{PartsWithin}
+use Rattle.spec_language.proofs.Accept.{none-asked}
+use Rattle.check_pass.specs.Passed.{ClearBelow}
+use Rattle.check_file.specs.Stages.{PassedBefore, PartsWithin, TableRoom}
 
 module _ (s : List ℕ) where
-  -- the parts of the first f functions pass
-  pub record Cleared (f : ℕ) : Type 0 where
-    pub at : (k : ℕ) → k < f → Clear s k (partOf s k) (countOf s k)
+  -- in the parts of the first f functions the questions from 7 to before r find nothing
+  pub record Cleared (f r : ℕ) : Type 0 where
+    pub at : (k : ℕ) → k < f → ClearBelow s k (partOf s k) (countOf s k) r
 
-  pub cleared-none : Cleared 0
-  cleared-none = record { at = λ k l. absurd (omega arith) }
+  pub cleared-none : (r : ℕ) → Cleared 0 r
+  cleared-none r = record { at = λ k l. absurd (omega arith) }
 
-  pub cleared-all : (f F : ℕ) → F ≡ functions s → F ≤ f → Cleared f → firstRefusal (partQuestions s 8 7) ≡ accepted
-  cleared-all f F e l h = asked-part s 8 7 (λ q p r. none-asked s q (λ k m. h .at k (omega arith) q p (omega arith)))
+  pub cleared-all : (f F r : ℕ) → F ≡ functions s → F ≤ f → Cleared f r → PassedBefore s r
+  cleared-all f F r e l h q p m = none-asked s q (λ k n. h .at k (omega arith) q p m)
 
--- the parts of a file of at most k records have at most k nodes
-pub short-within : (s : List ℕ) (k : ℕ) → Laid s → length s ≤ 12 * k → PartsWithin s k
-short-within s k laid h f l = omega (arith, laid .fits f l)
+-- the parts of a file of at most k records have at most k nodes, and those of any file at most 4,096
+pub parts-within : (s : List ℕ) (k : ℕ) → Laid s → (length s ≤ 12 * k) ⊎ (4096 ≤ k) → PartsWithin s k
+parts-within s k laid (inl h) f l = omega (arith, laid .fits f l)
+parts-within s k laid (inr h) f l = omega (arith, laid .small f l)
+
+-- so five words for each have room for summaries
+pub table-room : (s : List ℕ) (k : ℕ) → Laid s → (length s ≤ 12 * k) ⊎ (4096 ≤ k) → TableRoom s (5 * k)
+table-room s k laid h f l = omega (arith, parts-within s k laid h f l)
 
 module _ (s : List ℕ) (laid : Laid s) {F f start n : ℕ} (e : F ≡ functions s) (l : f < F) (a : start ≡ startOf s f) (b : n ≡ countOf s f) where
   known-function : f < functions s
@@ -48,12 +53,12 @@ module _ (s : List ℕ) (laid : Laid s) {F f start n : ℕ} (e : F ≡ functions
       let z = part-length s f (laid .fits f k) in
       ((laid, k), (rw t (omega arith), omega (arith, laid .some f k), omega (arith, laid .small f k)))
 
-  pub cleared-next : Cleared s f → Clear s f taken n → Cleared s (f + 1)
-  cleared-next h c = record { at = λ k m. go k m (decLt k f) }
+  pub cleared-next : {own least lowest : ℕ} → lowest ≤ own → lowest ≤ least → Cleared s f least → ClearBelow s f taken n own → Cleared s (f + 1) lowest
+  cleared-next {own} {least} {lowest} u w h c = record { at = λ k m. go k m (decLt k f) }
     where
-      go : (k : ℕ) → k < f + 1 → Dec (k < f) → Clear s k (partOf s k) (countOf s k)
-      go k m (yes p) = h .at k p
-      go k m (no p) =
-          let q : k ≡ f = omega arith in
+      go : (k : ℕ) → k < f + 1 → Dec (k < f) → ClearBelow s k (partOf s k) (countOf s k) lowest
+      go k m (yes p) q x y = h .at k p q x (omega arith)
+      go k m (no p) q x y =
+          let z : k ≡ f = omega arith in
           let t : taken ≡ partOf s f = part-taken s f a b in
-          rw q (rw (t, b) at c)
+          rw z (rw (t, b) at (c q x (omega arith)))

@@ -15,8 +15,8 @@ use Rattle.records.specs.declared.Found.the-variants.{At, Nothing}
 use Rattle.records.proofs.PartWalks.{part-taken}
 use Rattle.spec_language.specs.Nodes.{answers}
 use Rattle.spec_language.specs.Check.{originOf, inPart}
-use Rattle.spec_language.specs.Known.{Known, CallsKnown}
-use Rattle.check_file.specs.Stages.{Ready}
+use Rattle.spec_language.specs.Known.{Known, CallsKnown, WellFormed}
+use Rattle.check_file.specs.Stages.{Ready, TableRoom}
 use Rattle.check_file.proofs.FoundPlaces.{Placed}
 use Rattle.check_file.proofs.Passing.{part-room, part-asks}
 
@@ -30,13 +30,14 @@ module _ (s : List ℕ) (q : ℕ) (laid : Laid s) {F f start n : ℕ} (e : F ≡
   taken = take (12 * (start + n) - 12 * start) (drop (12 * start) s)
 
   -- what the questions in a part ask
-  pub asks : 7 ≤ q → Ready s q
+  pub asks : {k : ℕ} → 7 ≤ q → Ready s q → (12 < q → TableRoom s k)
       → (Laid s × (f < functions s))
-      × (((12 * n ≤ length taken) × (1 ≤ n) × (n ≤ 4096) × (7 ≤ q)) × (9 < q → Known taken n × CallsKnown (functions s) taken n))
-  asks m r =
+      × (((12 * n ≤ length taken) × (1 ≤ n) × (n ≤ 4096) × (7 ≤ q))
+      × ((9 < q → Known taken n × CallsKnown (functions s) taken n) × (12 < q → WellFormed taken n × (5 * n ≤ k))))
+  asks m r o =
       let p = part-asks s laid e l a b in
       let t : taken ≡ partOf s f = part-taken s f a b in
-      (p .0, ((p .1 .0, p .1 .1, p .1 .2, m), λ h. rw (t, b) (r h f (p .0 .1))))
+      (p .0, ((p .1 .0, p .1 .1, p .1 .2, m), (λ h. rw (t, b) (r .0 h f (p .0 .1)), λ h. (rw (t, b) (r .1 h f (p .0 .1)), omega (arith, o h f (p .0 .1), b)))))
 
   -- what they find, as the definition counts its place
   pub found : (r : Found) (o : ℕ) → r ≡ getD (answers s f taken n) (q - 7) Nothing → o ≡ pick (eqb q 10 || eqb q 14) (1 + f) start → inPart q s f ≡ shift o r

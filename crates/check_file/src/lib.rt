@@ -1,9 +1,9 @@
 // The check of a procedure file: questions 1 to 14 in order.
+mod sizes;
+
 use records::Found;
 use records::count_of;
-use records::format::MOST_NODES;
 use records::format::SHORTEST_FILE;
-use records::format::TYPE_UNSET;
 use records::function_count;
 use records::shift_by;
 ghost use mathlib.Core.Path.{_≡_};
@@ -18,10 +18,10 @@ ghost use Rattle.records.specs.Parts.{Laid};
 ghost use Rattle.records.specs.Search.{firstIn};
 ghost use Rattle.spec_language.specs.Records.{headerOk, recordsOk};
 ghost use Rattle.spec_language.specs.Nodes.{answers};
-ghost use Rattle.spec_language.specs.Check.{accepted, firstRefusal, partQuestions, inPart, checkOf};
-ghost use Rattle.spec_language.specs.Known.{Known, CallsKnown};
+ghost use Rattle.spec_language.specs.Check.{firstRefusal, partQuestions, inPart, checkOf};
+ghost use Rattle.spec_language.specs.Known.{Known, CallsKnown, WellFormed};
 ghost use Rattle.check_file.specs.Answers.{says, Small};
-ghost use Rattle.check_file.specs.Stages.{fromFour, Ready, PartsWithin};
+ghost use Rattle.check_file.specs.Stages.{fromFour, PassedBefore, Ready, TableRoom, AnswersTo};
 
 // A refusal: the question that fails, the record where it does, and the item that it names.
 pub struct Refusal {
@@ -36,11 +36,11 @@ pub enum Answer {
     Refused(Refusal),
 }
 
-// What fails question q, from 7 to 14, in the part of function f, which has n nodes.
-fn answer_in(file: &[u8], q: u8, f: usize, part: &[u8], n: usize) -> Found
+// What fails question q, from 7 to 14, in the part of function f, which has n nodes; for 13 and 14 the table is room for summaries.
+fn answer_in(file: &[u8], q: u8, f: usize, part: &[u8], n: usize, table: &mut [u64]) -> Found
     requires laid { ⌜ Laid (now file) × (f < functions (now file)) ⌝ }
     requires inside { ⌜ (12 * n ≤ length (now part)) × (1 ≤ n) × (n ≤ mostNodes) × (7 ≤ q) ⌝ }
-    requires known { ⌜ (9 < q → Known (now part) n × CallsKnown (functions (now file)) (now part) n) ⌝ }
+    requires known { ⌜ (9 < q → Known (now part) n × CallsKnown (functions (now file)) (now part) n) × (12 < q → WellFormed (now part) n × (5 * n ≤ length (now table))) ⌝ }
     ensures exact { λ r. ⌜ r ≡ getD (answers (now (file .entry)) f (now (part .entry)) n) (q - 7) Found.Nothing ⌝ }
     ensures small { λ r. ⌜ ((i x : ℕ) → r ≡ Found.At i x → (i < n) × (x < mostVariables)) ⌝ }
 {
@@ -51,8 +51,8 @@ fn answer_in(file: &[u8], q: u8, f: usize, part: &[u8], n: usize) -> Found
         10 => check_scopes::first_undeclared(file, f, part, n),
         11 => check_scopes::first_outside(file, f, part, n),
         12 => check_types::first_mistyped(file, f, part, n),
-        13 => check_flow::first_lacking(file, f, part, n),
-        14 => check_returns::not_returning(part, n),
+        13 => check_flow::first_lacking(file, f, part, n, table),
+        14 => check_flow::not_returning(part, n, table),
         _ => Found::Nothing,
     }
 }
@@ -70,9 +70,9 @@ fn origin(q: u8, f: usize, start: usize) -> usize
 }
 
 // What fails question q, from 7 to 14, in the first function where anything does.
-fn first_in_parts(file: &[u8], q: u8) -> Found
+fn first_in_parts(file: &[u8], q: u8, table: &mut [u64]) -> Found
     requires laid { ⌜ Laid (now file) × (length (now file) ≤ longestFile) × (7 ≤ q) ⌝ }
-    requires known { ⌜ Ready (now file) q ⌝ }
+    requires known { ⌜ Ready (now file) q × (12 < q → TableRoom (now file) (length (now table))) ⌝ }
     ensures exact { λ r. ⌜ r ≡ firstIn (inPart q (now (file .entry))) (functions (now (file .entry))) 0 ⌝ }
     ensures small { λ r. ⌜ ((i x : ℕ) → r ≡ Found.At i x → (i < mostRecords) × (x < mostVariables)) ⌝ }
 {
@@ -84,7 +84,7 @@ fn first_in_parts(file: &[u8], q: u8) -> Found
         let a = 12 * start;
         let e = 12 * (start + n);
         if let Found::At(place, item) = shift_by(
-            answer_in(file, q, f, &file[a..e], n),
+            answer_in(file, q, f, &file[a..e], n, table),
             origin(q, f, start),
         ) {
             return Found::At(place, item);
@@ -95,63 +95,16 @@ fn first_in_parts(file: &[u8], q: u8) -> Found
     Found::Nothing
 }
 
-// Whether each part is shown to pass questions 7 to 14, by one pass over its nodes.
-fn parts_pass(file: &[u8], codes: &mut [u8], reads: &mut [u64], sets: &mut [u64]) -> bool
-    requires laid { ⌜ Laid (now file) ⌝ }
-    requires room { ⌜ PartsWithin (now file) (length (now codes)) × PartsWithin (now file) (length (now reads)) × PartsWithin (now file) (length (now sets)) ⌝ }
-    ensures { λ r. ⌜ (r ≡ true → firstRefusal (partQuestions (now (file .entry)) 8 7) ≡ accepted) ⌝ }
-{
-    let functions = function_count(file);
-    let mut f = 0;
-    let mut start = 1 + functions;
-    while f < functions {
-        let n = count_of(file, f);
-        let a = 12 * start;
-        let e = 12 * (start + n);
-        if !check_pass::part_passes(file, f, &file[a..e], n, codes, reads, sets) {
-            return false;
-        }
-        start += n;
-        f += 1;
-    }
-    true
-}
-
-// The same, with working arrays that have room for the nodes; every node's type is unset at first.
-fn file_passes(file: &[u8]) -> bool
-    requires { ⌜ Laid (now file) × (length (now file) ≤ longestFile) ⌝ }
-    ensures { λ r. ⌜ (r ≡ true → firstRefusal (partQuestions (now (file .entry)) 8 7) ≡ accepted) ⌝ }
-{
-    if file.len() <= 3072 {
-        let mut types = [TYPE_UNSET; 256];
-        let mut reads = [0u64; 256];
-        let mut sets = [0u64; 256];
-        return parts_pass(file, &mut types, &mut reads, &mut sets);
-    }
-    if file.len() <= 12288 {
-        let mut types = [TYPE_UNSET; 1024];
-        let mut reads = [0u64; 1024];
-        let mut sets = [0u64; 1024];
-        return parts_pass(file, &mut types, &mut reads, &mut sets);
-    }
-    let mut types = [TYPE_UNSET; MOST_NODES];
-    let mut reads = [0u64; MOST_NODES];
-    let mut sets = [0u64; MOST_NODES];
-    parts_pass(file, &mut types, &mut reads, &mut sets)
-}
-
-// Questions 7 to 14.
-fn check_parts(file: &[u8]) -> Answer
-    requires { ⌜ Laid (now file) × (length (now file) ≤ longestFile) ⌝ }
-    ensures exact { λ r. ⌜ says r ≡ firstRefusal (partQuestions (now (file .entry)) 8 7) ⌝ }
+// The questions from one to before another, where all before them pass.
+fn ask(file: &[u8], from: u8, end: u8, table: &mut [u64]) -> Answer
+    requires laid { ⌜ Laid (now file) × (length (now file) ≤ longestFile) × (7 ≤ from) × (end ≤ 15) ⌝ }
+    requires known { ⌜ PassedBefore (now file) from × (13 < end → TableRoom (now file) (length (now table))) ⌝ }
+    ensures exact { λ r. ⌜ AnswersTo (now (file .entry)) end r ⌝ }
     ensures small { λ r. ⌜ Small r ⌝ }
 {
-    if file_passes(file) {
-        return Answer::Accepted;
-    }
-    let mut q = 7;
-    while q < 15 {
-        if let Found::At(place, item) = first_in_parts(file, q) {
+    let mut q = from;
+    while q < end {
+        if let Found::At(place, item) = first_in_parts(file, q, table) {
             return Answer::Refused(Refusal {
                 question: q,
                 place,
@@ -161,6 +114,23 @@ fn check_parts(file: &[u8]) -> Answer
         q += 1;
     }
     Answer::Accepted
+}
+
+// Questions 7 to 14: those from the least that may fail on.
+fn check_parts(file: &[u8]) -> Answer
+    requires { ⌜ Laid (now file) × (length (now file) ≤ longestFile) ⌝ }
+    ensures exact { λ r. ⌜ says r ≡ firstRefusal (partQuestions (now (file .entry)) 8 7) ⌝ }
+    ensures small { λ r. ⌜ Small r ⌝ }
+{
+    let least = sizes::file_floor(file);
+    if 14 < least {
+        return Answer::Accepted;
+    }
+    let mut none = [0u64; 1];
+    if let Answer::Refused(refusal) = ask(file, least, 13, &mut none) {
+        return Answer::Refused(refusal);
+    }
+    sizes::check_flows(file, sizes::greater(least, 13))
 }
 
 // Questions 4 to 14.

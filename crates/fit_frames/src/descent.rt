@@ -30,7 +30,7 @@ ghost use Rattle.spec_machine.specs.Machine.{val, eval, exec};
 ghost use Rattle.spec_machine.specs.File.{programOf};
 ghost use Rattle.spec_image.specs.Decode.{frameOf};
 ghost use Rattle.state_words.specs.Meaning.{refIs, controlIs};
-ghost use Rattle.fit_table.specs.Tables.{TableSays};
+ghost use Rattle.check_summary.specs.Tables.{TableSays};
 ghost use Rattle.fit_nodes.specs.Part.{Part};
 ghost use Rattle.fit_frames.specs.Incoming.{frameFits, handsOn, ends};
 ghost use Rattle.fit_frames.specs.Meaning.{incomingIs};

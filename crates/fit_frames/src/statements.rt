@@ -24,7 +24,7 @@ ghost use Rattle.spec_machine.specs.File.{programOf};
 ghost use Rattle.spec_machine.specs.Test.{stmtIn};
 ghost use Rattle.spec_image.specs.Decode.{refOf};
 ghost use Rattle.state_words.specs.Meaning.{refIs};
-ghost use Rattle.fit_table.specs.Tables.{TableSays};
+ghost use Rattle.check_summary.specs.Tables.{TableSays};
 ghost use Rattle.fit_nodes.specs.Part.{Part};
 ghost use Rattle.fit_frames.specs.Meaning.{Steps};
 

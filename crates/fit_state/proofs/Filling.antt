@@ -5,7 +5,7 @@ use Prim.Native.Nat.{ℕ, _<_}
 use Rattle.records.specs.Fields.{functions, countOf}
 use Rattle.records.specs.Parts.{partOf}
 use Rattle.fit_nodes.specs.Part.{Part}
-use Rattle.fit_table.specs.Tables.{RowsFilled}
+use Rattle.check_summary.specs.Tables.{RowsFilled}
 
 module _ (file part table : List ℕ) (f n : ℕ) (p : Part file f part n) where
   -- it serves again where the function is the same

@@ -41,7 +41,7 @@ ghost use Rattle.spec_image.specs.Image.{image};
 ghost use Rattle.spec_image.specs.Decode.{frameOf, framesHeld, activationsTo, heldIn};
 ghost use Rattle.spec_image.specs.Narrow.{Narrow};
 ghost use Rattle.state_words.specs.Meaning.{activationAt};
-ghost use Rattle.fit_table.specs.Tables.{RowsFilled, TableSays};
+ghost use Rattle.check_summary.specs.Tables.{RowsFilled, TableSays};
 ghost use Rattle.fit_nodes.specs.Part.{Part};
 ghost use Rattle.records.specs.Starts.{Starts};
 ghost use Rattle.fit_state.specs.HoldsState.{HoldsState};
@@ -138,7 +138,7 @@ fn activation_with(
     if last == f {
         return activation_in(file, f, part, n, table, m, a, v, low, k, over);
     }
-    fit_table::fill(file, f, part, n, table);
+    check_summary::fill(part, n, table);
     activation_in(file, f, part, n, table, m, a, v, low, k, over)
 }
 

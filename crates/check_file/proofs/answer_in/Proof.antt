@@ -17,19 +17,19 @@ first-misplaced-requires : tie.Need-first-misplaced-requires
 first-misplaced-requires c κs = search needs
 
 first-undeclared-requires : tie.Need-first-undeclared-requires
-first-undeclared-requires c κs = ((head-inside _ _ (c .before .before .before .pre .0 .0) (c .before .before .before .pre .0 .1), c .before .before .before .pre .0 .0 .vars _ (c .before .before .before .pre .0 .1), c .before .before .before .pre .0 .0 .params _ (c .before .before .before .pre .0 .1)), (search needs, c .before .before .before .pre .1 .1 (omega arith) .0 .variable))
+first-undeclared-requires c κs = ((head-inside _ _ (c .before .before .before .before .pre .0 .0) (c .before .before .before .before .pre .0 .1), c .before .before .before .before .pre .0 .0 .vars _ (c .before .before .before .before .pre .0 .1), c .before .before .before .before .pre .0 .0 .params _ (c .before .before .before .before .pre .0 .1)), (search needs, c .before .before .before .before .pre .1 .1 .0 (omega arith) .0 .variable))
 
 first-outside-requires : tie.Need-first-outside-requires
-first-outside-requires c κs = (head-inside _ _ (c .before .before .before .pre .0 .0) (c .before .before .before .pre .0 .1), (search needs, c .before .before .before .pre .1 .1 (omega arith) .0))
+first-outside-requires c κs = (head-inside _ _ (c .before .before .before .before .pre .0 .0) (c .before .before .before .before .pre .0 .1), (search needs, c .before .before .before .before .pre .1 .1 .0 (omega arith) .0))
 
 first-mistyped-requires : tie.Need-first-mistyped-requires
-first-mistyped-requires c κs = (search needs, (search needs, c .before .before .before .pre .1 .1 (omega arith)))
+first-mistyped-requires c κs = (search needs, (search needs, c .before .before .before .before .pre .1 .1 .0 (omega arith)))
 
 first-lacking-requires : tie.Need-first-lacking-requires
-first-lacking-requires c κs = ((head-inside _ _ (c .before .before .before .pre .0 .0) (c .before .before .before .pre .0 .1), c .before .before .before .pre .0 .0 .params _ (c .before .before .before .pre .0 .1)), (search needs, c .before .before .before .pre .1 .1 (omega arith) .0))
+first-lacking-requires c κs = ((head-inside _ _ (c .before .before .before .before .before .pre .0 .0) (c .before .before .before .before .before .pre .0 .1), c .before .before .before .before .before .pre .0 .0 .params _ (c .before .before .before .before .before .pre .0 .1)), (c .before .before .before .before .before .pre .1 .1 .1 (omega arith) .0, search needs, c .before .before .before .before .before .pre .1 .1 .1 (omega arith) .1))
 
 not-returning-requires : tie.Need-not-returning-requires
-not-returning-requires c κs = (search needs, c .before .before .before .pre .1 .1 (omega arith) .0)
+not-returning-requires c κs = (c .before .before .before .before .before .pre .1 .1 .1 (omega arith) .0, search needs, c .before .before .before .before .before .pre .1 .1 .1 (omega arith) .1)
 
 returns : tie.Need-returns
 unfolding answers fails
@@ -45,7 +45,7 @@ returns-3 c = (rw (c .before .match .keys3) (c .first-misplaced .ensures), place
 
 returns-4 : tie.Need-returns-4
 unfolding answers fails
-returns-4 c = (rw (c .before .match .keys4) (c .first-undeclared .ensures), placed-undeclared _ _ _ _ (c .first-undeclared .ensures) (c .before .before .before .before .pre .0 .0 .vars _ (c .before .before .before .before .pre .0 .1)) (search needs))
+returns-4 c = (rw (c .before .match .keys4) (c .first-undeclared .ensures), placed-undeclared _ _ _ _ (c .first-undeclared .ensures) (c .before .before .before .before .before .pre .0 .0 .vars _ (c .before .before .before .before .before .pre .0 .1)) (search needs))
 
 returns-5 : tie.Need-returns-5
 unfolding answers fails
@@ -55,13 +55,19 @@ returns-6 : tie.Need-returns-6
 unfolding answers fails
 returns-6 c = (rw (c .before .match .keys6) (c .first-mistyped .ensures), placed-first _ _ _ (c .first-mistyped .ensures))
 
+same-length : tie.Need-same-length
+same-length c = search needs
+
 returns-7 : tie.Need-returns-7
 unfolding answers fails
-returns-7 c = (rw (c .before .match .keys7) (c .first-lacking .ensures .0), placed-lacks _ _ (c .before .before .before .before .pre .1 .1 (omega arith) .0) _ _ (c .first-lacking .ensures .0) (search needs))
+returns-7 c = (rw (c .before .before .before .before .match .keys7) (c .before .before .first-lacking .ensures .0), placed-lacks _ _ (c .before .before .before .before .before .before .before .before .pre .1 .1 .0 (omega arith) .0) _ _ (c .before .before .first-lacking .ensures .0) (search needs))
+
+same-length-2 : tie.Need-same-length-2
+same-length-2 c = search needs
 
 returns-8 : tie.Need-returns-8
 unfolding answers fails
-returns-8 c = (rw (c .before .match .keys8) (c .not-returning .ensures), placed-unless _ _ _ (c .not-returning .ensures) (search needs))
+returns-8 c = (rw (c .before .before .before .before .match .keys8) (c .before .before .not-returning .ensures), placed-unless _ _ _ (c .before .before .not-returning .ensures) (search needs))
 
 returns-9 : tie.Need-returns-9
 returns-9 c = (past-fourteen _ _ _ _ _ (search needs) (c .match .rest .0 .0 .0 .0 .0 .0 .0 .1) (c .match .rest .0 .0 .0 .0 .0 .0 .1) (c .match .rest .0 .0 .0 .0 .0 .1) (c .match .rest .0 .0 .0 .0 .1) (c .match .rest .0 .0 .0 .1) (c .match .rest .0 .0 .1) (c .match .rest .0 .1) (c .match .rest .1), placed-none _)
@@ -84,6 +90,8 @@ answer-in-spec =
     returns-4
     returns-5
     returns-6
+    same-length
     returns-7
+    same-length-2
     returns-8
     returns-9)

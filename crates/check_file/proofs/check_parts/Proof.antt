@@ -1,68 +1,52 @@
-use Prim.Native.Nat.{_-_, _≤_}
-use mathlib.Core.Path.{_≡_, refl, sym, _∙_}
-use borrow.Author.Needs.{needs}
-use Rattle.spec_language.specs.Check.{firstRefusal, partQuestions}
-use Rattle.check_file.proofs.Rounds.{Passed, ready, none-passed, more-passed, round-found, round-on, round-end}
+use Rattle.check_file.proofs.Rounds.{none-found, answers-all, greater-passed}
 use Rattle.check_file.specs.Answers.{says}
+use mathlib.Core.Path.{sym}
+use borrow.Author.Needs.{needs}
 use Rattle.check_file.proofs.check_parts.Statement.{statement}
 use Rattle.check_file.proofs.check_parts.Tie as tie
 
-abbrev Inv-loop : tie.InvT-loop
-Inv-loop file q₀ q = (7 ≤ q) × (q ≤ 15) × (firstRefusal (partQuestions file 8 7) ≡ firstRefusal (partQuestions file (15 - q) q)) × Passed file q
+file-floor-requires : tie.Need-file-floor-requires
+file-floor-requires c κs = search needs
 
-abbrev μ-loop : tie.MeasureT-loop
-μ-loop file q₀ q = 15 - q
-
-file-passes-requires : tie.Need-file-passes-requires Inv-loop μ-loop
-file-passes-requires c κs = c .before .pre
-
-returns : tie.Need-returns Inv-loop μ-loop
+returns : tie.Need-returns
 unfolding says
-returns c = (sym (c .before .file-passes .ensures (c .if1 .taken)), tt)
+returns c = (sym (none-found _ _ (c .if1 .taken) (c .before .file-floor .ensures .0)), tt)
 
-loop-holds : tie.Need-loop-holds Inv-loop μ-loop
-loop-holds c = (search needs, search needs, refl, none-passed _)
+slice-aggregate-ask : tie.Need-slice-aggregate-ask
+slice-aggregate-ask c = search needs
 
-first-in-parts-requires : tie.Need-first-in-parts-requires Inv-loop μ-loop
-first-in-parts-requires c κs = ((c .before .before .before .before .before .pre .0, c .before .before .before .before .before .pre .1, search needs), ready _ _ (c .before .before .before .before .before .pre .0) (c .before .loop .inv .3))
+ask-requires : tie.Need-ask-requires
+ask-requires c κs = search needs
 
-enum-known-place : tie.Need-enum-known-place Inv-loop μ-loop
-enum-known-place c = search needs
+enum-known-refusal : tie.Need-enum-known-refusal
+enum-known-refusal c = search needs
 
-returns-2 : tie.Need-returns-2 Inv-loop μ-loop
-unfolding says
-returns-2 c = (sym ((c .before .before .before .before .before .loop .inv .2) ∙ round-found _ _ _ _ (c .before .before .before .before .loop-test .taken) (sym (c .before .before .before .first-in-parts .ensures .0) ∙ (c .before .place .given .1))), (c .before .before .before .first-in-parts .ensures .1) _ _ (c .before .place .given .1))
+returns-2 : tie.Need-returns-2
+returns-2 c = (rw (c .before .refusal .given .1) at (c .before .before .before .before .ask .ensures .0), rw (c .before .refusal .given .1) at (c .before .before .before .before .ask .ensures .1))
 
-enum-told : tie.Need-enum-told Inv-loop μ-loop
+enum-told : tie.Need-enum-told
 enum-told c = search needs
 
-add-q : tie.Need-add-q Inv-loop μ-loop
-add-q c = search needs
+greater-requires : tie.Need-greater-requires
+greater-requires c κs = search needs
 
-loop-less : tie.Need-loop-less Inv-loop μ-loop
-loop-less c = search needs
+check-flows-requires : tie.Need-check-flows-requires
+check-flows-requires c κs = (c .before .before .before .before .before .before .before .before .before .pre .0, c .before .before .before .before .before .before .before .before .before .pre .1, c .greater .ensures .1, greater-passed _ (c .before .before .before .before .before .before .before .file-floor .ensures .0) (rw (c .before .enum-told .given .1) at (c .before .before .before .before .ask .ensures .0)) (c .greater .ensures .2) (c .greater .ensures .3))
 
-loop-again : tie.Need-loop-again Inv-loop μ-loop
-loop-again c = (search needs, search needs, (c .before .before .before .before .loop .inv .2) ∙ round-on _ _ (c .before .before .before .loop-test .taken) (sym (c .before .before .first-in-parts .ensures .0) ∙ c .enum-told .given .1), more-passed _ _ (c .before .before .before .before .loop .inv .3) (sym (c .before .before .first-in-parts .ensures .0) ∙ c .enum-told .given .1))
-
-returns-3 : tie.Need-returns-3 Inv-loop μ-loop
-unfolding says
-returns-3 c = (sym ((c .before .loop .inv .2) ∙ round-end _ _ (search needs)), tt)
+returns-3 : tie.Need-returns-3
+returns-3 c = (answers-all _ _ (c .check-flows .ensures .0), c .check-flows .ensures .1)
 
 pub check-parts-spec : {M : Type 1} → statement M
 check-parts-spec =
     tie.close
     (tie.spec
-    Inv-loop
-    μ-loop
-    file-passes-requires
+    file-floor-requires
     returns
-    loop-holds
-    first-in-parts-requires
-    enum-known-place
+    slice-aggregate-ask
+    ask-requires
+    enum-known-refusal
     returns-2
     enum-told
-    add-q
-    loop-less
-    loop-again
+    greater-requires
+    check-flows-requires
     returns-3)

@@ -1,5 +1,5 @@
 use Rattle.fit_flow.proofs.Passing.{held-is}
-use Rattle.fit_table.proofs.Looking.{row-room, expression-row}
+use Rattle.fit_flow.proofs.Looking.{row-room, expression-row}
 use Rattle.fit_nodes.proofs.Sorts.{expression-inside}
 use Rattle.spec_machine.specs.File.{programOf}
 use mathlib.Core.Path.{_∙_}

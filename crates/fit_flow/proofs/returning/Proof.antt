@@ -1,5 +1,5 @@
-use Rattle.fit_table.proofs.Arms.{row-sums}
-use Rattle.fit_table.proofs.Looking.{row-room, statement-row, body-row}
+use Rattle.check_summary.proofs.Arms.{row-sums}
+use Rattle.fit_flow.proofs.Looking.{row-room, statement-row, body-row}
 use Rattle.fit_nodes.proofs.Refs.{node-is, node-within, seq-within}
 use Rattle.fit_flow.proofs.Refs.{seq-above, nop-returns, node-returns, if-returning, seq-returning}
 use native.Mathlib.Omega.{arith}

@@ -1,4 +1,4 @@
-use Rattle.fit_table.proofs.Looking.{row-room, while-row, body-row}
+use Rattle.fit_flow.proofs.Looking.{row-room, while-row, body-row}
 use Rattle.fit_flow.proofs.Trees.{loop-seq}
 use Rattle.fit_nodes.proofs.AcceptedParts.{loop-above}
 use native.Mathlib.Omega.{arith}

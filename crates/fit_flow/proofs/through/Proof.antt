@@ -1,4 +1,4 @@
-use Rattle.fit_table.proofs.Looking.{row-room, statement-row}
+use Rattle.fit_flow.proofs.Looking.{row-room, statement-row}
 use Rattle.fit_nodes.proofs.Refs.{node-is, node-within, if-within, seq-within}
 use Rattle.fit_flow.proofs.Refs.{nop-flows, node-flows, if-flows, seq-flows}
 use mathlib.Core.Path.{_∙_}

@@ -5,7 +5,7 @@ use native.Mathlib.Omega.{arith}
 use borrow.Author.Tests.{not-true, not-false, ltb-true}
 use Rattle.records.specs.Fields.{functions, countOf}
 use Rattle.records.specs.Parts.{partOf}
-use Rattle.fit_table.specs.Tables.{RowsFilled}
+use Rattle.check_summary.specs.Tables.{RowsFilled}
 use Rattle.spec_machine.specs.File.{programOf, funOf}
 use Rattle.spec_image.specs.Decode.{activationsTo, heldIn}
 use Rattle.fit_frames.proofs.Files.{record-in}
