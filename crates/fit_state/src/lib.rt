@@ -1,6 +1,13 @@
 // Whether the state that a memory holds is fit for an accepted file's program.
 mod holding;
+mod tables;
 
+use crate::tables::MIDDLE_RECORDS;
+use crate::tables::SHORT_RECORDS;
+use crate::tables::TOO_LONG;
+use crate::tables::long_fits;
+use crate::tables::middle_fits;
+use crate::tables::short_fits;
 use fit_frames::Next;
 use fit_frames::descent::begin;
 use fit_frames::descent::frames_fit;
@@ -8,6 +15,7 @@ use fit_frames::giving;
 use fit_nodes::decls_of;
 use records::count_of;
 use records::format::MOST_FUNCTIONS;
+use records::format::RECORD;
 use records::format::VARIABLE_ENTRIES;
 use records::function_count;
 use records::result_of;
@@ -251,15 +259,12 @@ pub fn fits(file: &[u8], m: &[u32]) -> bool
     if m[0] != TAG_RUNNING {
         return true;
     }
-    let records = file.len() / 12;
-    if records <= 256 {
-        let mut table = [0u64; 1280];
-        return running_fits(file, &mut table, m);
+    let k = file.len() / TOO_LONG;
+    if file.len() <= RECORD * SHORT_RECORDS {
+        return short_fits(file, m, k);
     }
-    if records <= 1024 {
-        let mut table = [0u64; 5120];
-        return running_fits(file, &mut table, m);
+    if file.len() <= RECORD * MIDDLE_RECORDS {
+        return middle_fits(file, m, k);
     }
-    let mut table = [0u64; 21125];
-    running_fits(file, &mut table, m)
+    long_fits(file, m, k)
 }

@@ -7,7 +7,7 @@ use native.Mathlib.Numerals.{add-one}
 use native.Mathlib.Omega.{arith}
 use lib.Dec.{eqb}
 use lib.ListN.{take, drop, length, getD, replicate, length-drop, take-append-drop}
-use lib.Seq.{take-all, drop-cons, drop-drop, drop-length}
+use lib.Seq.{take-all, take-add, drop-cons, drop-drop, drop-length}
 use borrow.Author.Tests.{eq-eqb, ne-eqb, eqb-true}
 use Rattle.words.specs.Blocks.{allZero, eqWords}
 
@@ -51,7 +51,7 @@ module _ (l : List ℕ) (i : ℕ) (h : i < length l) where
   pub zero-less : (getD l i 0 ≡ 0 → ⊥) → allZero (drop i l) ≡ false
   zero-less n = rw (drop-cons l i 0 h, ne-eqb (getD l i 0) 0 n)
 
--- ---- eight words at a time
+-- ---- many words at a time
 
 -- words before a place and from it on
 pub zero-append : (a b : List ℕ) → allZero (a ++ b) ≡ (allZero a && allZero b)
@@ -63,18 +63,23 @@ module _ (l : List ℕ) (i : ℕ) where
   pub tail : take (length l - i) (drop i l) ≡ drop i l
   tail = take-all (length l - i) (drop i l) (simp length-drop (omega arith))
 
-  eight : allZero (drop i l) ≡ (allZero (take 8 (take (length l - i) (drop i l))) && allZero (drop (i + 8) l))
-  eight =
-      rw tail
-      (ap allZero (sym (take-append-drop 8 (drop i l)))
-      ∙ zero-append (take 8 (drop i l)) (drop 8 (drop i l))
-      ∙ ap (λ (t : List ℕ). allZero (take 8 (drop i l)) && allZero t) (drop-drop 8 i l))
+  module _ (w : ℕ) where
+    part : allZero (drop i l) ≡ (allZero (take w (take (length l - i) (drop i l))) && allZero (drop (i + w) l))
+    part =
+        rw tail
+        (ap allZero (sym (take-append-drop w (drop i l)))
+        ∙ zero-append (take w (drop i l)) (drop w (drop i l))
+        ∙ ap (λ (t : List ℕ). allZero (take w (drop i l)) && allZero t) (drop-drop w i l))
 
-  pub eight-more : allZero (take 8 (take (length l - i) (drop i l))) ≡ true → allZero (drop i l) ≡ allZero (drop (i + 8) l)
-  eight-more e = eight ∙ rw e
+    pub part-more : allZero (take w (take (length l - i) (drop i l))) ≡ true → allZero (drop i l) ≡ allZero (drop (i + w) l)
+    part-more e = part ∙ rw e
 
-  pub eight-less : allZero (take 8 (take (length l - i) (drop i l))) ≡ false → allZero (drop i l) ≡ false
-  eight-less e = eight ∙ rw e
+    pub part-less : allZero (take w (take (length l - i) (drop i l))) ≡ false → allZero (drop i l) ≡ false
+    part-less e = part ∙ rw e
+
+    -- the words before the place and the w from it on, each tested
+    pub part-joined : (a b : Bool) → a ≡ allZero (take i l) → b ≡ allZero (take w (take (length l - i) (drop i l))) → (a && b) ≡ allZero (take (i + w) l)
+    part-joined a b e f = rw (e, f, tail, take-add i w l) (sym (zero-append (take i l) (take w (drop i l))))
 
 -- the first eight words, four and four
 pub eight-words : (l : List ℕ) → 8 ≤ length l

@@ -87,7 +87,7 @@ fn eight_zero(s: &[u32]) -> bool
 }
 
 // Whether every word is zero, eight at a time.
-pub fn all_zero(s: &[u32]) -> bool
+fn by_eights(s: &[u32]) -> bool
     ensures { λ r. ⌜ r ≡ allZero (now (s .entry)) ⌝ }
 {
     let n = s.len();
@@ -99,4 +99,27 @@ pub fn all_zero(s: &[u32]) -> bool
         at += 8;
     }
     each_zero(&s[at..])
+}
+
+// Whether the first 32 words are zero, with one branch.
+fn many_zero(s: &[u32]) -> bool
+    requires { ⌜ 32 ≤ length (now s) ⌝ }
+    ensures { λ r. ⌜ r ≡ allZero (take 32 (now (s .entry))) ⌝ }
+{
+    eight_zero(s) & eight_zero(&s[8..]) & eight_zero(&s[16..]) & eight_zero(&s[24..])
+}
+
+// Whether every word is zero, 32 at a time.
+pub fn all_zero(s: &[u32]) -> bool
+    ensures { λ r. ⌜ r ≡ allZero (now (s .entry)) ⌝ }
+{
+    let n = s.len();
+    let mut at = 0;
+    while 32 <= n - at {
+        if !many_zero(&s[at..]) {
+            return false;
+        }
+        at += 32;
+    }
+    by_eights(&s[at..])
 }

@@ -1,4 +1,4 @@
-use Rattle.words.proofs.Tests.{tail, eight-more, eight-less}
+use Rattle.words.proofs.Tests.{tail, part-more, part-less}
 use Rattle.words.specs.Blocks.{allZero}
 use lib.ListN.{length, drop}
 use Prim.Native.Nat.{_≤_, _-_}
@@ -20,23 +20,23 @@ loop-holds c = (search needs, refl)
 sub-loop : tie.Need-sub-loop Inv-loop μ-loop
 sub-loop c = search needs
 
-mul-eight-zero : tie.Need-mul-eight-zero Inv-loop μ-loop
-mul-eight-zero c = search needs
+mul-many-zero : tie.Need-mul-many-zero Inv-loop μ-loop
+mul-many-zero c = search needs
 
-sub-eight-zero : tie.Need-sub-eight-zero Inv-loop μ-loop
-sub-eight-zero c = search needs
+sub-many-zero : tie.Need-sub-many-zero Inv-loop μ-loop
+sub-many-zero c = search needs
 
-part-eight-zero-start : tie.Need-part-eight-zero-start Inv-loop μ-loop
-part-eight-zero-start c = search needs
+part-many-zero-start : tie.Need-part-many-zero-start Inv-loop μ-loop
+part-many-zero-start c = search needs
 
-part-eight-zero-end : tie.Need-part-eight-zero-end Inv-loop μ-loop
-part-eight-zero-end c = search needs
+part-many-zero-end : tie.Need-part-many-zero-end Inv-loop μ-loop
+part-many-zero-end c = search needs
 
-eight-zero-requires : tie.Need-eight-zero-requires Inv-loop μ-loop
-eight-zero-requires c κs = search needs
+many-zero-requires : tie.Need-many-zero-requires Inv-loop μ-loop
+many-zero-requires c κs = search needs
 
 returns : tie.Need-returns Inv-loop μ-loop
-returns c = let l = c .before .before .before .before .loop in sym (sym (l .inv .1) ∙ eight-less _ (l .at) (sym (c .before .eight-zero .ensures) ∙ not-true _ (c .if1 .taken)))
+returns c = let l = c .before .before .before .before .loop in sym (sym (l .inv .1) ∙ part-less _ (l .at) 32 (sym (c .before .many-zero .ensures) ∙ not-true _ (c .if1 .taken)))
 
 add-at : tie.Need-add-at Inv-loop μ-loop
 add-at c = search needs
@@ -45,25 +45,25 @@ loop-less : tie.Need-loop-less Inv-loop μ-loop
 loop-less c = search needs
 
 loop-again : tie.Need-loop-again Inv-loop μ-loop
-loop-again c = let l = c .before .before .before .before .loop in (search needs, sym (eight-more _ (l .at) (sym (c .before .eight-zero .ensures) ∙ not-false _ (c .if1 .left))) ∙ l .inv .1)
+loop-again c = let l = c .before .before .before .before .loop in (search needs, sym (part-more _ (l .at) 32 (sym (c .before .many-zero .ensures) ∙ not-false _ (c .if1 .left))) ∙ l .inv .1)
 
-mul-each-zero : tie.Need-mul-each-zero Inv-loop μ-loop
-mul-each-zero c = search needs
+mul-by-eights : tie.Need-mul-by-eights Inv-loop μ-loop
+mul-by-eights c = search needs
 
-sub-each-zero : tie.Need-sub-each-zero Inv-loop μ-loop
-sub-each-zero c = search needs
+sub-by-eights : tie.Need-sub-by-eights Inv-loop μ-loop
+sub-by-eights c = search needs
 
-part-each-zero-start : tie.Need-part-each-zero-start Inv-loop μ-loop
-part-each-zero-start c = search needs
+part-by-eights-start : tie.Need-part-by-eights-start Inv-loop μ-loop
+part-by-eights-start c = search needs
 
-part-each-zero-end : tie.Need-part-each-zero-end Inv-loop μ-loop
-part-each-zero-end c = search needs
+part-by-eights-end : tie.Need-part-by-eights-end Inv-loop μ-loop
+part-by-eights-end c = search needs
 
-each-zero-requires : tie.Need-each-zero-requires Inv-loop μ-loop
-each-zero-requires c κs = search needs
+by-eights-requires : tie.Need-by-eights-requires Inv-loop μ-loop
+by-eights-requires c κs = search needs
 
 returns-2 : tie.Need-returns-2 Inv-loop μ-loop
-returns-2 c = let l = c .before .before .before .loop in c .each-zero .ensures ∙ ap allZero (tail (c .before .before .before .before .before .args .s .now) (l .at)) ∙ l .inv .1
+returns-2 c = let l = c .before .before .before .loop in c .by-eights .ensures ∙ ap allZero (tail (c .before .before .before .before .before .args .s .now) (l .at)) ∙ l .inv .1
 
 pub all-zero-spec : {M : Type 1} → statement M
 all-zero-spec =
@@ -73,18 +73,18 @@ all-zero-spec =
     μ-loop
     loop-holds
     sub-loop
-    mul-eight-zero
-    sub-eight-zero
-    part-eight-zero-start
-    part-eight-zero-end
-    eight-zero-requires
+    mul-many-zero
+    sub-many-zero
+    part-many-zero-start
+    part-many-zero-end
+    many-zero-requires
     returns
     add-at
     loop-less
     loop-again
-    mul-each-zero
-    sub-each-zero
-    part-each-zero-start
-    part-each-zero-end
-    each-zero-requires
+    mul-by-eights
+    sub-by-eights
+    part-by-eights-start
+    part-by-eights-end
+    by-eights-requires
     returns-2)

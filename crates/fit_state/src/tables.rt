@@ -1,0 +1,66 @@
+// Whether a running state is fit, with a table of five words a node that is as long as the file asks for.
+use crate::running_fits;
+use records::format::MOST_NODES;
+ghost use mathlib.Core.Path.{_≡_};
+ghost use mathlib.Core.List.{List, _++_};
+ghost use Prim.Native.Nat.{ℕ, _*_, _≤_};
+ghost use lib.ListN.{length, getD};
+ghost use Rattle.spec_image.specs.Sizes.{size};
+ghost use Rattle.spec_language.specs.Check.{accepted, checkOf};
+ghost use Rattle.spec_machine.specs.Machine.{State};
+ghost use Rattle.spec_machine.specs.Fit.{WithinLimits};
+ghost use Rattle.spec_machine.specs.File.{programOf};
+ghost use Rattle.spec_machine.specs.Test.{fit};
+ghost use Rattle.spec_image.specs.Image.{image};
+ghost use Rattle.spec_image.specs.Narrow.{Narrow};
+ghost use Rattle.fit_state.specs.HoldsState.{HoldsState};
+
+// The most records of a short file.
+pub const SHORT_RECORDS: usize = 256;
+
+// The most records of a middling file.
+pub const MIDDLE_RECORDS: usize = 1024;
+
+// Bytes that no accepted file has.
+pub const TOO_LONG: usize = 65536;
+
+// Whether the running state is fit for the program of a short file; the call to itself, which no accepted file comes to, keeps the table out of the caller's frame.
+pub fn short_fits(file: &[u8], m: &[u32], k: usize) -> bool
+    requires file { ⌜ (checkOf (now file) ≡ accepted) × (size ≤ length (now m)) × HoldsState (now m) × (getD (now m) 0 0 ≡ 2) ⌝ }
+    requires room { ⌜ length (now file) ≤ 12 * 256 ⌝ }
+    ensures { λ r. ⌜ ((s : State) (R : List ℕ) → now (m .entry) ≡ image s ++ R → WithinLimits s → Narrow s → r ≡ fit (programOf (now (file .entry))) s) ⌝ }
+{
+    let mut table = [0u64; 5 * SHORT_RECORDS];
+    let fit = running_fits(file, &mut table, m);
+    if 0 < k {
+        return fit & short_fits(file, m, k - 1);
+    }
+    fit
+}
+
+// The same for a middling file.
+pub fn middle_fits(file: &[u8], m: &[u32], k: usize) -> bool
+    requires file { ⌜ (checkOf (now file) ≡ accepted) × (size ≤ length (now m)) × HoldsState (now m) × (getD (now m) 0 0 ≡ 2) ⌝ }
+    requires room { ⌜ length (now file) ≤ 12 * 1024 ⌝ }
+    ensures { λ r. ⌜ ((s : State) (R : List ℕ) → now (m .entry) ≡ image s ++ R → WithinLimits s → Narrow s → r ≡ fit (programOf (now (file .entry))) s) ⌝ }
+{
+    let mut table = [0u64; 5 * MIDDLE_RECORDS];
+    let fit = running_fits(file, &mut table, m);
+    if 0 < k {
+        return fit & middle_fits(file, m, k - 1);
+    }
+    fit
+}
+
+// The same for any file, with a table for the most nodes.
+pub fn long_fits(file: &[u8], m: &[u32], k: usize) -> bool
+    requires { ⌜ (checkOf (now file) ≡ accepted) × (size ≤ length (now m)) × HoldsState (now m) × (getD (now m) 0 0 ≡ 2) ⌝ }
+    ensures { λ r. ⌜ ((s : State) (R : List ℕ) → now (m .entry) ≡ image s ++ R → WithinLimits s → Narrow s → r ≡ fit (programOf (now (file .entry))) s) ⌝ }
+{
+    let mut table = [0u64; 5 * MOST_NODES];
+    let fit = running_fits(file, &mut table, m);
+    if 0 < k {
+        return fit & long_fits(file, m, k - 1);
+    }
+    fit
+}
