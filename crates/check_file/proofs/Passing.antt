@@ -1,7 +1,6 @@
 -- The walk over the parts that pass up to a question.
 use mathlib.Core.Path.{_≡_}
 use mathlib.Core.List.{List}
-use mathlib.Core.Logic.{_⊎_, inl, inr}
 use Prim.Native.Nat.{ℕ, _+_, _*_, _-_, _≤_, _<_}
 use native.Mathlib.Omega.{arith}
 use native.Mathlib.Decide.{decLt}
@@ -11,7 +10,7 @@ use Rattle.records.specs.Parts.{startOf, partOf, Laid}
 use Rattle.records.proofs.PartWalks.{part-taken, part-length, part-fits}
 use Rattle.spec_language.proofs.Accept.{none-asked}
 use Rattle.check_pass.specs.Passed.{ClearBelow}
-use Rattle.check_file.specs.Stages.{PassedBefore, PartsWithin, TableRoom}
+use Rattle.check_file.specs.Stages.{PassedBefore, PartsWithin}
 
 module _ (s : List ℕ) where
   -- in the parts of the first f functions the questions from 7 to before r find nothing
@@ -23,15 +22,6 @@ module _ (s : List ℕ) where
 
   pub cleared-all : (f F r : ℕ) → F ≡ functions s → F ≤ f → Cleared f r → PassedBefore s r
   cleared-all f F r e l h q p m = none-asked s q (λ k n. h .at k (omega arith) q p m)
-
--- the parts of a file of at most k records have at most k nodes, and those of any file at most 4,096
-pub parts-within : (s : List ℕ) (k : ℕ) → Laid s → (length s ≤ 12 * k) ⊎ (4096 ≤ k) → PartsWithin s k
-parts-within s k laid (inl h) f l = omega (arith, laid .fits f l)
-parts-within s k laid (inr h) f l = omega (arith, laid .small f l)
-
--- so five words for each have room for summaries
-pub table-room : (s : List ℕ) (k : ℕ) → Laid s → (length s ≤ 12 * k) ⊎ (4096 ≤ k) → TableRoom s (5 * k)
-table-room s k laid h f l = omega (arith, parts-within s k laid h f l)
 
 module _ (s : List ℕ) (laid : Laid s) {F f start n : ℕ} (e : F ≡ functions s) (l : f < F) (a : start ≡ startOf s f) (b : n ≡ countOf s f) where
   known-function : f < functions s

@@ -4,7 +4,11 @@
 // with large arrays do, k times; k is 0 for every file of up to 65,535 bytes, and none longer than 50,700 comes here.
 use crate::Answer;
 use records::count_of;
+use records::format::MIDDLE_RECORDS;
 use records::format::MOST_NODES;
+use records::format::RECORD;
+use records::format::SHORT_RECORDS;
+use records::format::TOO_LONG;
 use records::format::TYPE_UNSET;
 use records::function_count;
 ghost use mathlib.Core.Path.{_≡_};
@@ -56,23 +60,23 @@ fn parts_floor(file: &[u8], codes: &mut [u8], reads: &mut [u64], sets: &mut [u64
 
 // Files of up to 256 records.
 fn short_floor(file: &[u8]) -> u8
-    requires { ⌜ Laid (now file) × (length (now file) ≤ 3072) ⌝ }
+    requires { ⌜ Laid (now file) × (length (now file) ≤ 12 * 256) ⌝ }
     ensures { λ r. ⌜ PassedBefore (now (file .entry)) r × (7 ≤ r) × (r ≤ 15) ⌝ }
 {
-    let mut types = [TYPE_UNSET; 256];
-    let mut reads = [0u64; 256];
-    let mut sets = [0u64; 256];
+    let mut types = [TYPE_UNSET; SHORT_RECORDS];
+    let mut reads = [0u64; SHORT_RECORDS];
+    let mut sets = [0u64; SHORT_RECORDS];
     parts_floor(file, &mut types, &mut reads, &mut sets)
 }
 
 // Files of up to 1,024 records.
 fn middle_floor(file: &[u8], k: usize) -> u8
-    requires { ⌜ Laid (now file) × (length (now file) ≤ 12288) ⌝ }
+    requires { ⌜ Laid (now file) × (length (now file) ≤ 12 * 1024) ⌝ }
     ensures { λ r. ⌜ PassedBefore (now (file .entry)) r × (7 ≤ r) × (r ≤ 15) ⌝ }
 {
-    let mut types = [TYPE_UNSET; 1024];
-    let mut reads = [0u64; 1024];
-    let mut sets = [0u64; 1024];
+    let mut types = [TYPE_UNSET; MIDDLE_RECORDS];
+    let mut reads = [0u64; MIDDLE_RECORDS];
+    let mut sets = [0u64; MIDDLE_RECORDS];
     let own = parts_floor(file, &mut types, &mut reads, &mut sets);
     if 0 < k {
         return lower(own, middle_floor(file, k - 1));
@@ -100,11 +104,11 @@ pub fn file_floor(file: &[u8]) -> u8
     requires { ⌜ Laid (now file) ⌝ }
     ensures { λ r. ⌜ PassedBefore (now (file .entry)) r × (7 ≤ r) × (r ≤ 15) ⌝ }
 {
-    if file.len() <= 3072 {
+    if file.len() <= RECORD * SHORT_RECORDS {
         return short_floor(file);
     }
-    let k = file.len() / 65536;
-    if file.len() <= 12288 {
+    let k = file.len() / TOO_LONG;
+    if file.len() <= RECORD * MIDDLE_RECORDS {
         return middle_floor(file, k);
     }
     long_floor(file, k)
@@ -122,10 +126,10 @@ fn either(first: Answer, second: Answer) -> Answer
 
 // Questions 13 and 14, from q on, put to files of up to 256 records.
 fn short_flows(file: &[u8], q: u8, k: usize) -> Answer
-    requires { ⌜ AtFlows (now file) q × (length (now file) ≤ 3072) ⌝ }
+    requires { ⌜ AtFlows (now file) q × (length (now file) ≤ 12 * 256) ⌝ }
     ensures { λ r. ⌜ AnswersTo (now (file .entry)) 15 r × Small r ⌝ }
 {
-    let mut table = [0u64; 1280];
+    let mut table = [0u64; 5 * SHORT_RECORDS];
     let own = crate::ask(file, q, 15, &mut table);
     if 0 < k {
         return either(short_flows(file, q, k - 1), own);
@@ -135,10 +139,10 @@ fn short_flows(file: &[u8], q: u8, k: usize) -> Answer
 
 // Put to files of up to 1,024 records.
 fn middle_flows(file: &[u8], q: u8, k: usize) -> Answer
-    requires { ⌜ AtFlows (now file) q × (length (now file) ≤ 12288) ⌝ }
+    requires { ⌜ AtFlows (now file) q × (length (now file) ≤ 12 * 1024) ⌝ }
     ensures { λ r. ⌜ AnswersTo (now (file .entry)) 15 r × Small r ⌝ }
 {
-    let mut table = [0u64; 5120];
+    let mut table = [0u64; 5 * MIDDLE_RECORDS];
     let own = crate::ask(file, q, 15, &mut table);
     if 0 < k {
         return either(middle_flows(file, q, k - 1), own);
@@ -151,7 +155,7 @@ fn long_flows(file: &[u8], q: u8, k: usize) -> Answer
     requires { ⌜ AtFlows (now file) q ⌝ }
     ensures { λ r. ⌜ AnswersTo (now (file .entry)) 15 r × Small r ⌝ }
 {
-    let mut table = [0u64; 20480];
+    let mut table = [0u64; 5 * MOST_NODES];
     let own = crate::ask(file, q, 15, &mut table);
     if 0 < k {
         return either(long_flows(file, q, k - 1), own);
@@ -164,11 +168,11 @@ pub fn check_flows(file: &[u8], q: u8) -> Answer
     requires { ⌜ AtFlows (now file) q ⌝ }
     ensures { λ r. ⌜ AnswersTo (now (file .entry)) 15 r × Small r ⌝ }
 {
-    let k = file.len() / 65536;
-    if file.len() <= 3072 {
+    let k = file.len() / TOO_LONG;
+    if file.len() <= RECORD * SHORT_RECORDS {
         return short_flows(file, q, k);
     }
-    if file.len() <= 12288 {
+    if file.len() <= RECORD * MIDDLE_RECORDS {
         return middle_flows(file, q, k);
     }
     long_flows(file, q, k)

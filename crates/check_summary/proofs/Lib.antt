@@ -6,3 +6,4 @@ pub mod Ranges
 pub mod Filling
 pub mod Arms
 pub mod Stored
+pub mod Rooms

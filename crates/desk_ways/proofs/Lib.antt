@@ -6,3 +6,4 @@ pub mod Named
 pub mod Given
 pub mod Refusals
 pub mod Samples
+pub mod Walks

@@ -1,2 +1,3 @@
 pub mod Ways
 pub mod KnownNode
+pub mod Follows

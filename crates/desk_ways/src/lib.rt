@@ -1,4 +1,5 @@
 // On which way a variable has no value where it is read: the branch or the loop that a refusal by question 13 names.
+mod flow;
 mod known;
 
 use check_scopes::is_under;
@@ -80,7 +81,7 @@ fn gives_value(part: &[u8], n: usize, x: u32, s: usize) -> bool
     requires known { ⌜ Known (now part) n ⌝ }
     ensures { λ r. ⌜ r ≡ gives (now (part .entry)) x s ⌝ }
 {
-    let flow = check_flow::flow_from(part, n, s, VarSet::empty());
+    let flow = flow::flow_from(part, n, s, VarSet::empty());
     let left = flow.left;
     left.contains(x)
 }

@@ -16,6 +16,7 @@ use Rattle.spec_machine.specs.File.{programOf}
 use Rattle.spec_machine.specs.Test.{exprIn}
 use Rattle.check_summary.specs.Summary.{Needs}
 use Rattle.fit_nodes.specs.Part.{Part}
+use Rattle.fit_nodes.proofs.AcceptedParts.{well-formed}
 use Rattle.fit_nodes.proofs.Sorts.{own-expression, expression-inside}
 use Rattle.check_summary.specs.Tables.{wordOf, RowSays, TableSays}
 use Rattle.check_summary.proofs.Arms.{sorted, kid}
@@ -46,12 +47,12 @@ module _ {s : List ℕ} {f : ℕ} {t : List ℕ} {n : ℕ} (p : Part s f t n) {t
 
     pub body-below : w - 1 < w
     unfolding arityOf arities last
-    body-below = kid p l 11 0 1 k refl
+    body-below = kid (well-formed p) l 11 0 1 k refl
 
     pub body-row : RowSays (statementAt t (w - 1)) table (w - 1)
     unfolding arityOf arities last wantsExpression
-    body-row = o .0 .flows (w - 1) (omega (arith, l)) (sorted p l w 11 0 1 l k refl)
+    body-row = o .0 .flows (w - 1) (omega (arith, l)) (sorted (well-formed p) l w 11 0 1 l k refl)
 
     pub condition-row : {e : ℕ} → e ≡ w - 1 - sizeAt t (w - 1) → Needs (readsOf t e) (wordOf table e 1)
     unfolding arityOf arities last prior wantsExpression
-    condition-row q = rw q (o .0 .reads _ (omega (arith, l)) (sorted p l w 11 1 0 l k refl))
+    condition-row q = rw q (o .0 .reads _ (omega (arith, l)) (sorted (well-formed p) l w 11 1 0 l k refl))

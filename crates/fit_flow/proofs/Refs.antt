@@ -14,8 +14,8 @@ use Rattle.state_words.specs.Meaning.{refIs}
 use Rattle.fit_nodes.specs.Part.{Part}
 use Rattle.fit_nodes.proofs.AcceptedParts.{loop-above}
 use Rattle.fit_nodes.proofs.Refs.{if-within, seq-within}
-use Rattle.fit_flow.specs.declared.Flowed.{Flowed}
-use Rattle.fit_flow.specs.Flowed.{FlowedIs}
+use Rattle.check_summary.specs.declared.Flowed.{Flowed}
+use Rattle.check_summary.specs.Flowed.{FlowedIs}
 use Rattle.fit_flow.proofs.Trees.{seq-returns, if-returns}
 
 -- what is asked of the way through a statement begun with d

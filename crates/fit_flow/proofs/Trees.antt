@@ -13,8 +13,8 @@ use Rattle.spec_language.specs.Flow.{leaves, missing, lacks, returns}
 use Rattle.spec_language.proofs.Trees.{statement-while}
 use Rattle.spec_machine.specs.File.{unrolled, looped}
 use Rattle.records.specs.Search.{clear}
-use Rattle.fit_flow.specs.declared.Flowed.{Flowed}
-use Rattle.fit_flow.specs.Flowed.{FlowedIs}
+use Rattle.check_summary.specs.declared.Flowed.{Flowed}
+use Rattle.check_summary.specs.Flowed.{FlowedIs}
 
 -- two searches are clear together
 clear-both : (a b : Found) → clear (orElse a b) ≡ clear a && clear b

@@ -7,7 +7,7 @@ use lib.ListN.{length}
 use Rattle.records.specs.Fields.{functions, paramsOf, varsOf, kindAt}
 use Rattle.records.specs.Parts.{Laid}
 use Rattle.records.proofs.PartWalks.{part-length}
-use Rattle.spec_language.specs.Known.{Known, CallsKnown}
+use Rattle.spec_language.specs.Known.{Known, CallsKnown, WellFormed}
 use Rattle.spec_language.proofs.Accept.{Accepted, accepted-is, parts, nodes-known, calls-known}
 use Rattle.spec_language.proofs.KnownNodes.{inner}
 use Rattle.check_scopes.specs.Counts.{Named}
@@ -28,6 +28,15 @@ module _ {s : List ℕ} {f : ℕ} {t : List ℕ} {n : ℕ} (p : Part s f t n) wh
 
   pub nodes : Known t n
   nodes = rw (p .part, p .count) (nodes-known s all f (p .known))
+
+  pub well-formed : WellFormed t n
+  well-formed =
+      record {
+        inside = inside;
+        nodes = nodes;
+        sized = rw (p .part, p .count) (λ i l. all .eight f i (p .known) l);
+        placed = rw (p .part, p .count) (λ i l. all .nine f i (p .known) l);
+      }
 
   pub calls : CallsKnown (functions s) t n
   calls = rw (p .part, p .count) (calls-known s all f (p .known))

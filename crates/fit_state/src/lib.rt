@@ -2,9 +2,6 @@
 mod holding;
 mod tables;
 
-use crate::tables::MIDDLE_RECORDS;
-use crate::tables::SHORT_RECORDS;
-use crate::tables::TOO_LONG;
 use crate::tables::long_fits;
 use crate::tables::middle_fits;
 use crate::tables::short_fits;
@@ -14,8 +11,11 @@ use fit_frames::descent::frames_fit;
 use fit_frames::giving;
 use fit_nodes::decls_of;
 use records::count_of;
+use records::format::MIDDLE_RECORDS;
 use records::format::MOST_FUNCTIONS;
 use records::format::RECORD;
+use records::format::SHORT_RECORDS;
+use records::format::TOO_LONG;
 use records::format::VARIABLE_ENTRIES;
 use records::function_count;
 use records::result_of;

@@ -1,6 +1,8 @@
 // Whether a running state is fit, with a table of five words a node that is as long as the file asks for.
 use crate::running_fits;
+use records::format::MIDDLE_RECORDS;
 use records::format::MOST_NODES;
+use records::format::SHORT_RECORDS;
 ghost use mathlib.Core.Path.{_≡_};
 ghost use mathlib.Core.List.{List, _++_};
 ghost use Prim.Native.Nat.{ℕ, _*_, _≤_};
@@ -14,15 +16,6 @@ ghost use Rattle.spec_machine.specs.Test.{fit};
 ghost use Rattle.spec_image.specs.Image.{image};
 ghost use Rattle.spec_image.specs.Narrow.{Narrow};
 ghost use Rattle.fit_state.specs.HoldsState.{HoldsState};
-
-// The most records of a short file.
-pub const SHORT_RECORDS: usize = 256;
-
-// The most records of a middling file.
-pub const MIDDLE_RECORDS: usize = 1024;
-
-// Bytes that no accepted file has.
-pub const TOO_LONG: usize = 65536;
 
 // Whether the running state is fit for the program of a short file; the call to itself, which no accepted file comes to, keeps the table out of the caller's frame.
 pub fn short_fits(file: &[u8], m: &[u32], k: usize) -> bool

@@ -1,4 +1,4 @@
-use Rattle.fit_flow.proofs.Passing.{held-is}
+use Rattle.check_summary.proofs.Passing.{held-is}
 use Rattle.fit_flow.proofs.Looking.{row-room, condition-row}
 use Rattle.fit_flow.proofs.Trees.{loop-if}
 use Rattle.fit_nodes.proofs.AcceptedParts.{inside, loop-above}

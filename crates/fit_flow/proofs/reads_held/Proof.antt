@@ -1,4 +1,4 @@
-use Rattle.fit_flow.proofs.Passing.{held-is}
+use Rattle.check_summary.proofs.Passing.{held-is}
 use Rattle.fit_flow.proofs.Looking.{row-room, expression-row}
 use Rattle.fit_nodes.proofs.Sorts.{expression-inside}
 use Rattle.spec_machine.specs.File.{programOf}

@@ -2,7 +2,7 @@ use lib.Dec.{lit≤}
 use mathlib.Core.Logic.{inr}
 use native.Mathlib.Omega.{arith}
 use borrow.Author.Needs.{needs}
-use Rattle.check_file.proofs.Passing.{parts-within}
+use Rattle.check_summary.proofs.Rooms.{parts-within}
 use Rattle.check_file.proofs.Rounds.{fewer-passed}
 use Prim.Native.Nat.{ℕ, _<_}
 use borrow.Fn.Kinds.{In}

@@ -1,7 +1,7 @@
 use mathlib.Core.Logic.{inl}
 use native.Mathlib.Omega.{arith}
 use borrow.Author.Needs.{needs}
-use Rattle.check_file.proofs.Passing.{parts-within}
+use Rattle.check_summary.proofs.Rooms.{parts-within}
 use Rattle.check_file.proofs.Rounds.{fewer-passed}
 use Prim.Native.Nat.{ℕ, _<_}
 use borrow.Fn.Kinds.{In}

@@ -4,7 +4,7 @@ use native.Mathlib.Omega.{arith}
 use borrow.Author.Needs.{needs}
 use Rattle.check_file.specs.Answers.{Small}
 use Rattle.check_file.specs.Stages.{AnswersTo}
-use Rattle.check_file.proofs.Passing.{table-room}
+use Rattle.check_summary.proofs.Rooms.{table-room}
 use Rattle.check_file.proofs.Rounds.{one-of-two}
 use Prim.Native.Nat.{ℕ, _<_}
 use borrow.Fn.Kinds.{In}

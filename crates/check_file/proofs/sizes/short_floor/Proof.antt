@@ -1,4 +1,4 @@
-use Rattle.check_file.proofs.Passing.{parts-within}
+use Rattle.check_summary.proofs.Rooms.{parts-within}
 use native.Mathlib.Omega.{arith}
 use mathlib.Core.Logic.{inl}
 use borrow.Author.Needs.{needs}

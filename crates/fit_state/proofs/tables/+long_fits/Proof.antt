@@ -2,7 +2,9 @@ use lib.Dec.{lit≤}
 use mathlib.Core.Logic.{inr}
 use native.Mathlib.Omega.{arith}
 use borrow.Author.Needs.{needs}
-use Rattle.fit_state.proofs.Filling.{table-room, same-answer}
+use Rattle.check_summary.proofs.Rooms.{table-room}
+use Rattle.fit_frames.proofs.Files.{laid}
+use Rattle.fit_state.proofs.Filling.{same-answer}
 use Prim.Native.Nat.{ℕ, _<_}
 use borrow.Fn.Kinds.{In}
 use borrow.Fn.PlainCycle.{Measures, is, falls, and}
@@ -31,7 +33,7 @@ long-fits-slice-aggregate-running-fits : (t : ℕ) → long-fits-lts.Need-slice-
 long-fits-slice-aggregate-running-fits t c = search needs
 
 long-fits-running-fits-requires : (t : ℕ) → long-fits-lts.Need-running-fits-requires (claims t) (long-fits-at t) long-fits.Post
-long-fits-running-fits-requires t c κs = let p = c .before .before .before .pre .1 in (p, table-room (c .before .before .before .args .file .now) (p .0) 4096 (inr (lit≤ tt)))
+long-fits-running-fits-requires t c κs = let p = c .before .before .before .pre .1 in (p, table-room _ 4096 (laid _ (p .0)) (inr (lit≤ tt)))
 
 long-fits-sub-long-fits : (t : ℕ) → long-fits-lts.Need-sub-long-fits (claims t) (long-fits-at t) long-fits.Post
 long-fits-sub-long-fits t c = search needs

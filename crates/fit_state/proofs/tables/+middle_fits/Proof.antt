@@ -1,7 +1,9 @@
 use mathlib.Core.Logic.{inl}
 use native.Mathlib.Omega.{arith}
 use borrow.Author.Needs.{needs}
-use Rattle.fit_state.proofs.Filling.{table-room, same-answer}
+use Rattle.check_summary.proofs.Rooms.{table-room}
+use Rattle.fit_frames.proofs.Files.{laid}
+use Rattle.fit_state.proofs.Filling.{same-answer}
 use Prim.Native.Nat.{ℕ, _<_}
 use borrow.Fn.Kinds.{In}
 use borrow.Fn.PlainCycle.{Measures, is, falls, and}
@@ -30,7 +32,7 @@ middle-fits-slice-aggregate-running-fits : (t : ℕ) → middle-fits-lts.Need-sl
 middle-fits-slice-aggregate-running-fits t c = search needs
 
 middle-fits-running-fits-requires : (t : ℕ) → middle-fits-lts.Need-running-fits-requires (claims t) (middle-fits-at t) middle-fits.Post
-middle-fits-running-fits-requires t c κs = let p = c .before .before .before .pre .1 in (p .0, table-room (c .before .before .before .args .file .now) (p .0 .0) 1024 (inl (p .1)))
+middle-fits-running-fits-requires t c κs = let p = c .before .before .before .pre .1 in (p .0, table-room _ 1024 (laid _ (p .0 .0)) (inl (p .1)))
 
 middle-fits-sub-middle-fits : (t : ℕ) → middle-fits-lts.Need-sub-middle-fits (claims t) (middle-fits-at t) middle-fits.Post
 middle-fits-sub-middle-fits t c = search needs

@@ -1,7 +1,9 @@
 use mathlib.Core.Logic.{inl}
 use native.Mathlib.Omega.{arith}
 use borrow.Author.Needs.{needs}
-use Rattle.fit_state.proofs.Filling.{table-room, same-answer}
+use Rattle.check_summary.proofs.Rooms.{table-room}
+use Rattle.fit_frames.proofs.Files.{laid}
+use Rattle.fit_state.proofs.Filling.{same-answer}
 use Prim.Native.Nat.{ℕ, _<_}
 use borrow.Fn.Kinds.{In}
 use borrow.Fn.PlainCycle.{Measures, is, falls, and}
@@ -30,7 +32,7 @@ short-fits-slice-aggregate-running-fits : (t : ℕ) → short-fits-lts.Need-slic
 short-fits-slice-aggregate-running-fits t c = search needs
 
 short-fits-running-fits-requires : (t : ℕ) → short-fits-lts.Need-running-fits-requires (claims t) (short-fits-at t) short-fits.Post
-short-fits-running-fits-requires t c κs = let p = c .before .before .before .pre .1 in (p .0, table-room (c .before .before .before .args .file .now) (p .0 .0) 256 (inl (p .1)))
+short-fits-running-fits-requires t c κs = let p = c .before .before .before .pre .1 in (p .0, table-room _ 256 (laid _ (p .0 .0)) (inl (p .1)))
 
 short-fits-sub-short-fits : (t : ℕ) → short-fits-lts.Need-sub-short-fits (claims t) (short-fits-at t) short-fits.Post
 short-fits-sub-short-fits t c = search needs
