@@ -186,8 +186,10 @@ static void pieces(void)
     static const uint64_t sizes[] = {0, 1, 7, 100, 9862};
     unsigned i, single;
     for (i = 0; i < sizeof sizes / sizeof sizes[0]; i++) {
-        for (single = 0; i == 3 && single < 30; single++)
+        for (single = 0; i == 3 && single < 30; single++) {
             run(1, PANELRUE_RUN_ROOM);
+            look(noise() % 4, PANELRUE_LOOK_ROOM);
+        }
         run(sizes[i], PANELRUE_RUN_ROOM);
         memory_check(LENT);
         look_around();
