@@ -4,7 +4,7 @@
  *
  * The input is two numbers, a call and a part whose lowest bit is turned in what is printed of that call (call 0: of none), and then for
  * each procedure its length and its bytes. Numbers have four bytes, the low one first. A line has the call's number, its name, what it
- * answered, the four words of the answer, the sum and, after what makes an image, the words that it uses and those in whole blocks.
+ * answered, the four words of the answer, the sum and, after a call that leaves an image, the words that it takes when it is packed.
  */
 #include "port.h"
 
@@ -16,7 +16,7 @@ static uint8_t file[65536];
 static uint32_t length;
 static uint32_t memory[LENT], kept[LENT];
 static uint64_t answer[ANSWERS];
-static uint8_t marks[PANELRUE_WORDS];
+static uint32_t packed[PANELRUE_WORDS], unpacked[PANELRUE_WORDS];
 static uint8_t line[256];
 static unsigned at;
 static uint32_t calls, turned_call, turned_part;
@@ -97,19 +97,17 @@ static void told(const char *name, uint64_t number)
     end_line();
 }
 
-/* Prints the words that an image uses and those of whole blocks; a word outside that is not zero is named. */
-static void tell_used(void)
+/* Packs the image and prints how many words that takes; says so where it is not the same when it is unpacked. */
+static void tell_packed(void)
 {
-    unsigned i, used;
-    put(" used");
+    unsigned i, count = port_pack(memory, packed, PANELRUE_WORDS);
+    put(" packed");
+    put_number(count);
+    if (count == 0 || !port_unpack(packed, count, unpacked))
+        put(" LOST");
     for (i = 0; i < PANELRUE_WORDS; i++)
-        marks[i] = 0;
-    used = port_used(memory, marks);
-    put_number(used);
-    put_number(port_blocks(memory));
-    for (i = 0; i < PANELRUE_WORDS; i++)
-        if (memory[i] != 0 && marks[i] == 0) {
-            put(" BEYOND");
+        if (memory[i] != unpacked[i]) {
+            put(" LOST");
             put_number(i);
             break;
         }
@@ -120,7 +118,7 @@ static void tell_image(const char *name, uint64_t number)
 {
     tell(name, number);
     if (number == 0)
-        tell_used();
+        tell_packed();
     end_line();
 }
 
@@ -163,20 +161,43 @@ static void run(uint64_t allowance, panelrue_size room)
     tell_image("run", panelrue_run(file, length, memory, LENT, allowance, answer, room));
 }
 
+static void keep(void)
+{
+    unsigned i;
+    for (i = 0; i < LENT; i++)
+        kept[i] = memory[i];
+}
+
+static void restore(void)
+{
+    unsigned i;
+    for (i = 0; i < LENT; i++)
+        memory[i] = kept[i];
+}
+
 /* Changes some words of the memory, one at a time and by a bit or wholly, and asks what is made of it. */
 static void damage(void)
 {
-    unsigned i, turn_of;
-    for (i = 0; i < LENT; i++)
-        kept[i] = memory[i];
-    for (turn_of = 0; turn_of < 6; turn_of++) {
-        uint32_t place = turn_of < 3 ? noise() % 5 : turn_of < 5 ? 128 + noise() % 272 : noise() % PANELRUE_WORDS;
-        memory[place] = turn_of % 2 == 0 ? memory[place] ^ 1u << noise() % 3 : noise();
+    unsigned time;
+    for (time = 0; time < 6; time++) {
+        uint32_t place = time < 3 ? noise() % 5 : time < 5 ? 128 + noise() % 272 : noise() % PANELRUE_WORDS;
+        memory[place] = time % 2 == 0 ? memory[place] ^ 1u << noise() % 3 : noise();
         memory_check(LENT);
         run(3, PANELRUE_RUN_ROOM);
         look(0, PANELRUE_LOOK_ROOM);
-        for (i = 0; i < LENT; i++)
-            memory[i] = kept[i];
+        restore();
+    }
+}
+
+/* Changes a word of the packed image, or cuts it, and asks what is made of what is unpacked. */
+static void damage_packed(void)
+{
+    unsigned time, count = port_pack(memory, packed, PANELRUE_WORDS);
+    for (time = 0; time < 4 && count > 0; time++) {
+        packed[noise() % count] ^= 1u << noise() % 32;
+        put(port_unpack(packed, count - time % 2, memory) ? "whole" : "broken");
+        memory_check(LENT);
+        restore();
     }
 }
 
@@ -193,8 +214,11 @@ static void pieces(void)
         run(sizes[i], PANELRUE_RUN_ROOM);
         memory_check(LENT);
         look_around();
+        keep();
         if (i == 2 || i == 3)
             damage();
+        if (i == 3)
+            damage_packed();
     }
     run(1, 2);
 }

@@ -22,10 +22,10 @@ FROM_OUTSIDE("write") void port_write(const uint8_t *from, unsigned count);
 /* Puts every procedure of the input through the list of calls. */
 void port_drive(void);
 
-/* The words of an image that may be other than zero, marked by 1; 0 where the words are no image's. */
-unsigned port_used(const uint32_t *memory, uint8_t *marks);
+/* Packs the words of an image that may be other than zero, and answers how many; 0 where there is too little room, or no image. */
+unsigned port_pack(uint32_t *memory, uint32_t *packed, unsigned room);
 
-/* The words of whole blocks: 1, 2, or 5 and 136 for each activation and 20 for each frame. */
-unsigned port_blocks(const uint32_t *memory);
+/* Writes the image of packed words over the memory; 0 where the words are no packed image. What it writes is for the memory check. */
+int port_unpack(uint32_t *packed, unsigned count, uint32_t *memory);
 
 #endif
