@@ -52,14 +52,16 @@ static void end_line(void)
     at = 0;
 }
 
-/* A sum of all words lent: words that differ in one place have different sums. */
+/* Two sums of all words lent: words that differ in one place alone differ in both. */
 static uint64_t sum(void)
 {
-    uint64_t hash = 14695981039346656037u;
+    uint32_t first = 2166136261u, second = 0;
     unsigned i;
-    for (i = 0; i < LENT; i++)
-        hash = (hash ^ memory[i]) * 1099511628211u;
-    return hash;
+    for (i = 0; i < LENT; i++) {
+        first = (first ^ memory[i]) * 16777619u;
+        second = (second + memory[i]) * 2246822519u;
+    }
+    return (uint64_t)first << 32 | second;
 }
 
 /* Turns a bit of the part that the input names: a word of the memory, then one of the answer, then the number. */

@@ -94,6 +94,60 @@ void *memset(void *to, int byte, count_of bytes)
     return to;
 }
 
+#ifdef __ARM_ARCH_6M__
+/* Arithmetic that Armv6-M has no instructions for; a pair is a number of 64 bits, the first of it below. */
+static uint64_t pair(uint32_t low, uint32_t high) { return (uint64_t)high << 32 | low; }
+
+uint64_t __aeabi_uidivmod(uint32_t a, uint32_t b)
+{
+    uint32_t quotient = 0, rest = 0;
+    int bit;
+    for (bit = 31; bit >= 0; bit--) {
+        int over = rest >> 31 != 0;
+        rest = rest << 1 | (a >> bit & 1);
+        if (over || rest >= b) {
+            rest -= b;
+            quotient |= (uint32_t)1 << bit;
+        }
+    }
+    return pair(quotient, rest);
+}
+
+uint64_t __aeabi_idivmod(int a, int b)
+{
+    uint64_t both = __aeabi_uidivmod(a < 0 ? 0u - (uint32_t)a : (uint32_t)a, b < 0 ? 0u - (uint32_t)b : (uint32_t)b);
+    uint32_t quotient = (uint32_t)both, rest = (uint32_t)(both >> 32);
+    return pair((a < 0) != (b < 0) ? 0u - quotient : quotient, a < 0 ? 0u - rest : rest);
+}
+
+uint32_t __aeabi_uidiv(uint32_t a, uint32_t b) { return (uint32_t)__aeabi_uidivmod(a, b); }
+int __aeabi_idiv(int a, int b) { return (int)(uint32_t)__aeabi_idivmod(a, b); }
+
+uint64_t __aeabi_lmul(uint64_t a, uint64_t b)
+{
+    uint32_t al = (uint32_t)a, bl = (uint32_t)b, low = (al & 65535) * (bl & 65535);
+    uint32_t middle = (al >> 16) * (bl & 65535) + (low >> 16), other = (al & 65535) * (bl >> 16) + (middle & 65535);
+    uint32_t high = (al >> 16) * (bl >> 16) + (middle >> 16) + (other >> 16);
+    return pair((low & 65535) | other << 16, high + al * (uint32_t)(b >> 32) + (uint32_t)(a >> 32) * bl);
+}
+
+uint64_t __aeabi_llsl(uint64_t a, int by)
+{
+    uint32_t low = (uint32_t)a, high = (uint32_t)(a >> 32);
+    if (by >= 32)
+        return pair(0, low << (by - 32));
+    return by == 0 ? a : pair(low << by, high << by | low >> (32 - by));
+}
+
+uint64_t __aeabi_llsr(uint64_t a, int by)
+{
+    uint32_t low = (uint32_t)a, high = (uint32_t)(a >> 32);
+    if (by >= 32)
+        return pair(high >> (by - 32), 0);
+    return by == 0 ? a : pair(low >> by | high << (32 - by), high >> by);
+}
+#endif
+
 #ifdef __arm__
 void __aeabi_memcpy(void *to, const void *from, count_of bytes) { memcpy(to, from, bytes); }
 void __aeabi_memcpy4(void *to, const void *from, count_of bytes) { memcpy(to, from, bytes); }
