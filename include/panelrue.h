@@ -1,8 +1,9 @@
 /*
  * Panelrue for hosts in C and C++: check, start, run, memory check and look-up of test procedures.
  *
- * `rt staticlib panelrue_c` proves the library and writes target/staticlib/libpanelrue_c.a. It needs memcpy and memset and nothing
- * else: no heap, no clock, no file, no global data.
+ * `rt staticlib panelrue_c` proves the library and writes target/staticlib/libpanelrue_c.a, for x86-64; `c/port` makes it for other
+ * processors. It needs memcpy and memset (on Arm by the compiler's own names, and on Cortex-M0 its arithmetic; README.md lists them) and
+ * nothing else: no heap, no clock, no file, no global data.
  *
  * What the caller owes, for every call: a pointer is never null, not even with length 0; it points to as many elements as the length
  * beside it says, aligned for their type; what a call may write (memory of start and run, answer) overlaps nothing else that the call
@@ -14,7 +15,6 @@
 #ifndef PANELRUE_H
 #define PANELRUE_H
 
-#include <stddef.h>
 #include <stdint.h>
 
 #ifdef __cplusplus
@@ -26,6 +26,12 @@ extern "C" {
 #define PANELRUE_VERSION_MINOR 4
 #define PANELRUE_VERSION_PATCH 0
 #define PANELRUE_VERSION "0.4.0"
+
+/*
+ * A length: of a file in bytes, of a memory and of room for an answer in words. It has 64 bits on every processor, where size_t may have
+ * 32 and would be passed in another way.
+ */
+typedef uint64_t panelrue_size;
 
 /* The bytes of the longest procedure that can pass: a header, 128 functions and 4,096 nodes of 12 bytes each. */
 #define PANELRUE_LONGEST_FILE 50700
@@ -44,7 +50,10 @@ extern "C" {
 #define PANELRUE_RUN_ROOM 3
 #define PANELRUE_LOOK_ROOM 2
 
-/* The parts of a refusal. The place counts records: 0 the header, then functions, then nodes. Question 10 alone has an item, a variable. */
+/*
+ * The parts of a refusal. The place counts records, at most 4,224: 0 the header, then functions, then nodes. Question 10 alone has an
+ * item, a variable.
+ */
 #define PANELRUE_QUESTION(number) ((unsigned)((number) & 255u))
 #define PANELRUE_ITEM(number) ((unsigned)((number) >> 8 & 255u))
 #define PANELRUE_PLACE(number) ((unsigned long)((number) >> 16))
@@ -67,28 +76,28 @@ extern "C" {
 #define PANELRUE_BOOL 2u
 
 /* Whether the file is a procedure that may run: questions 1 to 14. */
-uint64_t panelrue_check(const uint8_t *file, size_t length);
+uint64_t panelrue_check(const uint8_t *file, panelrue_size length);
 
 /* Questions 1 to 15; then writes the state before main's first step over the first 16,384 words, whatever they held. */
-uint64_t panelrue_start(const uint8_t *file, size_t length, uint32_t *memory, size_t words);
+uint64_t panelrue_start(const uint8_t *file, panelrue_size length, uint32_t *memory, panelrue_size words);
 
 /*
  * Questions 1 to 16; then takes the state in the memory on by at most `allowance` steps, to a final outcome or to a limit, and writes
  * the outcome, the int's 32 bits (0 unless a value) and the steps taken into answer[0] to answer[2], if `room` is 3 or more. A run
  * that has ended answers its end again with 0 steps.
  */
-uint64_t panelrue_run(const uint8_t *file, size_t length, uint32_t *memory, size_t words, uint64_t allowance, uint64_t *answer,
-                      size_t room);
+uint64_t panelrue_run(const uint8_t *file, panelrue_size length, uint32_t *memory, panelrue_size words, uint64_t allowance,
+                      uint64_t *answer, panelrue_size room);
 
 /* Whether the memory holds a state from which this file's procedure can safely go on: questions 1 to 16. */
-uint64_t panelrue_memory_check(const uint8_t *file, size_t length, const uint32_t *memory, size_t words);
+uint64_t panelrue_memory_check(const uint8_t *file, panelrue_size length, const uint32_t *memory, panelrue_size words);
 
 /*
  * Questions 1 to 17; then writes the type and the word (an int's 32 bits, a bool's 0 or 1, else 0) of a variable of the function that
  * is running into answer[0] and answer[1], if `room` is 2 or more. Before main is entered and at every end there is no variable.
  */
-uint64_t panelrue_look_up(const uint8_t *file, size_t length, const uint32_t *memory, size_t words, uint32_t variable,
-                          uint64_t *answer, size_t room);
+uint64_t panelrue_look_up(const uint8_t *file, panelrue_size length, const uint32_t *memory, panelrue_size words, uint32_t variable,
+                          uint64_t *answer, panelrue_size room);
 
 #ifdef __cplusplus
 }

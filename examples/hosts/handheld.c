@@ -11,6 +11,7 @@
 #define _POSIX_C_SOURCE 200112L
 
 #include "panelrue.h"
+#include "panelrue_text.h"
 
 #include <errno.h>
 #include <stdio.h>
@@ -132,8 +133,7 @@ static enum status start(const char *name)
 /* Prints how a run stopped. */
 static enum status ended(const uint64_t *answer)
 {
-    static const char *const names[] = {"value", "arith", "abort", "Spent", "Full"};
-    printf("%s", names[answer[0]]);
+    printf("%s", panelrue_outcome_name(answer[0]));
     if (answer[0] == PANELRUE_VALUE)
         printf(" %lld", signed_word(answer[1]));
     printf(" steps %llu\n", (unsigned long long)answer[2]);
@@ -175,12 +175,12 @@ static enum status look(const char *name, const char *variable)
     number = panelrue_look_up(file, length, memory, words, (uint32_t)x, answer, PANELRUE_LOOK_ROOM);
     if (number != 0)
         return refused(number);
+    printf("%s", panelrue_type_name(answer[0]));
     if (answer[0] == PANELRUE_INT)
-        printf("int %lld\n", signed_word(answer[1]));
+        printf(" %lld", signed_word(answer[1]));
     else if (answer[0] == PANELRUE_BOOL)
-        puts(answer[1] == 1 ? "bool true" : "bool false");
-    else
-        puts("nothing");
+        printf(answer[1] == 1 ? " true" : " false");
+    puts("");
     return DONE;
 }
 
