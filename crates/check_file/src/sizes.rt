@@ -4,17 +4,18 @@
 // with large arrays do, k times; k is 0 for every file of up to 65,535 bytes, and none longer than 50,700 comes here.
 use crate::Answer;
 use records::count_of;
-use records::format::MIDDLE_RECORDS;
+use records::format::MIDDLE_NODES;
 use records::format::MOST_NODES;
 use records::format::RECORD;
-use records::format::SHORT_RECORDS;
+use records::format::SHORT_NODES;
 use records::format::TOO_LONG;
 use records::format::TYPE_UNSET;
 use records::function_count;
 ghost use mathlib.Core.Path.{_≡_};
 ghost use mathlib.Core.Logic.{_⊎_};
-ghost use Prim.Native.Nat.{_*_, _≤_, _<_};
+ghost use Prim.Native.Nat.{_+_, _*_, _≤_, _<_};
 ghost use lib.ListN.{length};
+ghost use Rattle.records.specs.Fields.{functions};
 ghost use Rattle.records.specs.Parts.{Laid};
 ghost use Rattle.check_file.specs.Answers.{Small};
 ghost use Rattle.check_file.specs.Stages.{PassedBefore, PartsWithin, AnswersTo, AtFlows};
@@ -58,25 +59,25 @@ fn parts_floor(file: &[u8], codes: &mut [u8], reads: &mut [u64], sets: &mut [u64
     least
 }
 
-// Files of up to 256 records.
+// Files of up to 256 nodes.
 fn short_floor(file: &[u8]) -> u8
-    requires { ⌜ Laid (now file) × (length (now file) ≤ 12 * 256) ⌝ }
+    requires { ⌜ Laid (now file) × (length (now file) ≤ 12 * (1 + functions (now file) + 256)) ⌝ }
     ensures { λ r. ⌜ PassedBefore (now (file .entry)) r × (7 ≤ r) × (r ≤ 15) ⌝ }
 {
-    let mut types = [TYPE_UNSET; SHORT_RECORDS];
-    let mut reads = [0u64; SHORT_RECORDS];
-    let mut sets = [0u64; SHORT_RECORDS];
+    let mut types = [TYPE_UNSET; SHORT_NODES];
+    let mut reads = [0u64; SHORT_NODES];
+    let mut sets = [0u64; SHORT_NODES];
     parts_floor(file, &mut types, &mut reads, &mut sets)
 }
 
-// Files of up to 1,024 records.
+// Files of up to 1,024 nodes.
 fn middle_floor(file: &[u8], k: usize) -> u8
-    requires { ⌜ Laid (now file) × (length (now file) ≤ 12 * 1024) ⌝ }
+    requires { ⌜ Laid (now file) × (length (now file) ≤ 12 * (1 + functions (now file) + 1024)) ⌝ }
     ensures { λ r. ⌜ PassedBefore (now (file .entry)) r × (7 ≤ r) × (r ≤ 15) ⌝ }
 {
-    let mut types = [TYPE_UNSET; MIDDLE_RECORDS];
-    let mut reads = [0u64; MIDDLE_RECORDS];
-    let mut sets = [0u64; MIDDLE_RECORDS];
+    let mut types = [TYPE_UNSET; MIDDLE_NODES];
+    let mut reads = [0u64; MIDDLE_NODES];
+    let mut sets = [0u64; MIDDLE_NODES];
     let own = parts_floor(file, &mut types, &mut reads, &mut sets);
     if 0 < k {
         return lower(own, middle_floor(file, k - 1));
@@ -104,11 +105,12 @@ pub fn file_floor(file: &[u8]) -> u8
     requires { ⌜ Laid (now file) ⌝ }
     ensures { λ r. ⌜ PassedBefore (now (file .entry)) r × (7 ≤ r) × (r ≤ 15) ⌝ }
 {
-    if file.len() <= RECORD * SHORT_RECORDS {
+    let functions = function_count(file);
+    if file.len() <= RECORD * (1 + functions + SHORT_NODES) {
         return short_floor(file);
     }
     let k = file.len() / TOO_LONG;
-    if file.len() <= RECORD * MIDDLE_RECORDS {
+    if file.len() <= RECORD * (1 + functions + MIDDLE_NODES) {
         return middle_floor(file, k);
     }
     long_floor(file, k)
@@ -124,12 +126,12 @@ fn either(first: Answer, second: Answer) -> Answer
     }
 }
 
-// Questions 13 and 14, from q on, put to files of up to 256 records.
+// Questions 13 and 14, from q on, put to files of up to 256 nodes.
 fn short_flows(file: &[u8], q: u8, k: usize) -> Answer
-    requires { ⌜ AtFlows (now file) q × (length (now file) ≤ 12 * 256) ⌝ }
+    requires { ⌜ AtFlows (now file) q × (length (now file) ≤ 12 * (1 + functions (now file) + 256)) ⌝ }
     ensures { λ r. ⌜ AnswersTo (now (file .entry)) 15 r × Small r ⌝ }
 {
-    let mut table = [0u64; 5 * SHORT_RECORDS];
+    let mut table = [0u64; 5 * SHORT_NODES];
     let own = crate::ask(file, q, 15, &mut table);
     if 0 < k {
         return either(short_flows(file, q, k - 1), own);
@@ -137,12 +139,12 @@ fn short_flows(file: &[u8], q: u8, k: usize) -> Answer
     own
 }
 
-// Put to files of up to 1,024 records.
+// Put to files of up to 1,024 nodes.
 fn middle_flows(file: &[u8], q: u8, k: usize) -> Answer
-    requires { ⌜ AtFlows (now file) q × (length (now file) ≤ 12 * 1024) ⌝ }
+    requires { ⌜ AtFlows (now file) q × (length (now file) ≤ 12 * (1 + functions (now file) + 1024)) ⌝ }
     ensures { λ r. ⌜ AnswersTo (now (file .entry)) 15 r × Small r ⌝ }
 {
-    let mut table = [0u64; 5 * MIDDLE_RECORDS];
+    let mut table = [0u64; 5 * MIDDLE_NODES];
     let own = crate::ask(file, q, 15, &mut table);
     if 0 < k {
         return either(middle_flows(file, q, k - 1), own);
@@ -168,11 +170,12 @@ pub fn check_flows(file: &[u8], q: u8) -> Answer
     requires { ⌜ AtFlows (now file) q ⌝ }
     ensures { λ r. ⌜ AnswersTo (now (file .entry)) 15 r × Small r ⌝ }
 {
+    let functions = function_count(file);
     let k = file.len() / TOO_LONG;
-    if file.len() <= RECORD * SHORT_RECORDS {
+    if file.len() <= RECORD * (1 + functions + SHORT_NODES) {
         return short_flows(file, q, k);
     }
-    if file.len() <= RECORD * MIDDLE_RECORDS {
+    if file.len() <= RECORD * (1 + functions + MIDDLE_NODES) {
         return middle_flows(file, q, k);
     }
     long_flows(file, q, k)

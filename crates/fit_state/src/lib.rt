@@ -11,10 +11,10 @@ use fit_frames::descent::frames_fit;
 use fit_frames::giving;
 use fit_nodes::decls_of;
 use records::count_of;
-use records::format::MIDDLE_RECORDS;
+use records::format::MIDDLE_NODES;
 use records::format::MOST_FUNCTIONS;
 use records::format::RECORD;
-use records::format::SHORT_RECORDS;
+use records::format::SHORT_NODES;
 use records::format::TOO_LONG;
 use records::format::VARIABLE_ENTRIES;
 use records::function_count;
@@ -259,11 +259,12 @@ pub fn fits(file: &[u8], m: &[u32]) -> bool
     if m[0] != TAG_RUNNING {
         return true;
     }
+    let functions = function_count(file);
     let k = file.len() / TOO_LONG;
-    if file.len() <= RECORD * SHORT_RECORDS {
+    if file.len() <= RECORD * (1 + functions + SHORT_NODES) {
         return short_fits(file, m, k);
     }
-    if file.len() <= RECORD * MIDDLE_RECORDS {
+    if file.len() <= RECORD * (1 + functions + MIDDLE_NODES) {
         return middle_fits(file, m, k);
     }
     long_fits(file, m, k)

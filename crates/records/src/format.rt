@@ -43,9 +43,9 @@ pub const SHORTEST_FILE: usize = 36;
 pub const LONGEST_FILE: usize = 50700;
 
 // The most records of a short file, and of a middling one: working arrays are chosen by them.
-pub const SHORT_RECORDS: usize = 256;
+pub const SHORT_NODES: usize = 256;
 
-pub const MIDDLE_RECORDS: usize = 1024;
+pub const MIDDLE_NODES: usize = 1024;
 
 // More bytes than any file has that passes question 3.
 pub const TOO_LONG: usize = 65536;
