@@ -3,6 +3,7 @@
 //! Without the feature `proved` the reference stands where the proved check would.
 
 mod cases;
+mod count;
 mod machine;
 
 use bench::timing::{ask, checks, judged, medians_of_all, Call};
@@ -161,9 +162,34 @@ fn run() {
     machine::run();
 }
 
+/// What the program can be asked.
+const USAGE: &str = "\
+bench                         prints the tables of times
+bench cases                   prints how often each case is to be counted, its nodes and its name
+bench count SIDE CASE TIMES   does a case so many times on `proved` or `plain`";
+
+/// Does what the words ask.
+fn asked() -> Result<(), String> {
+    let words: Vec<String> = std::env::args().skip(1).collect();
+    let words: Vec<&str> = words.iter().map(String::as_str).collect();
+    match words[..] {
+        [] => run(),
+        ["cases"] => count::list(),
+        ["count", side, case, times] => return count::run(side, case, times),
+        _ => return Err(USAGE.to_string()),
+    }
+    Ok(())
+}
+
 /// Runs on a thread whose stack holds the deepest trees.
 fn main() -> std::process::ExitCode {
-    let thread = std::thread::Builder::new().stack_size(64 << 20).spawn(run);
-    let done = matches!(thread.map(|t| t.join()), Ok(Ok(())));
+    let thread = std::thread::Builder::new().stack_size(64 << 20).spawn(asked);
+    let done = match thread.map(|t| t.join()) {
+        Ok(Ok(Err(reason))) => {
+            eprintln!("{reason}");
+            false
+        }
+        other => matches!(other, Ok(Ok(Ok(())))),
+    };
     std::process::ExitCode::from(u8::from(!done))
 }
