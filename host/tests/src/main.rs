@@ -27,7 +27,7 @@ impl Total {
 /// The stack that the checks get for the worked files, which include the deepest trees.
 const SMALL_STACK: usize = 1 << 20;
 
-/// One group's files on one side, on a small stack; a panic counts as a failure.
+/// One group's files on one side, on a small stack; a panic counts as a failure or ends the program and fails it.
 fn run_group(group: &Group, side: &Side) -> Outcome {
     let judge = || {
         let mut outcome = Outcome::default();
