@@ -2,6 +2,8 @@
 //!
 //! Without the feature `proved` the reference stands where the proved check would.
 
+#[cfg(feature = "copies")]
+mod alignments;
 mod cases;
 mod count;
 mod machine;
@@ -166,7 +168,8 @@ fn run() {
 const USAGE: &str = "\
 bench                         prints the tables of times
 bench cases                   prints how often each case is to be counted, its nodes and its name
-bench count SIDE CASE TIMES   does a case so many times on `proved` or `plain`";
+bench count SIDE CASE TIMES   does a case so many times on `proved` or `plain`
+bench alignments DEPTH        prints the times of copies of the library, so many calls further down the stack";
 
 /// Does what the words ask.
 fn asked() -> Result<(), String> {
@@ -175,6 +178,8 @@ fn asked() -> Result<(), String> {
     match words[..] {
         [] => run(),
         ["cases"] => count::list(),
+        #[cfg(feature = "copies")]
+        ["alignments", depth] => return alignments::run(depth),
         ["count", side, case, times] => return count::run(side, case, times),
         _ => return Err(USAGE.to_string()),
     }
