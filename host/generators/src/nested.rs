@@ -70,7 +70,7 @@ fn around(question: u8) -> usize {
 
 /// Nested statements around a statement, with at most so many nodes.
 fn statements(nodes: usize, level: Level<Stmt>, question: u8, inner: fn() -> Stmt) -> File {
-    deepest(nodes, level, |nest| with_callee(declared(around(question), nest(inner()))))
+    deepest(nodes, level, |nest| main(DECLS as u8, declared(around(question), nest(inner()))))
 }
 
 /// A return of nested expressions around an expression, with at most so many nodes.
