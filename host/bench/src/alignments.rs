@@ -61,14 +61,15 @@ fn ends(numbers: impl Iterator<Item = f64>) -> [f64; 2] {
 
 /// Prints a row for each shape.
 fn print() {
-    println!("| accepted, {NODES} nodes | plain ns | least copy, ns | greatest copy, ns | least ratio | greatest ratio |");
-    println!("|---|---:|---:|---:|---:|---:|");
+    println!("| accepted, {NODES} nodes | plain ns | least copy, ns | greatest copy, ns | least ratio | greatest ratio | its copy |");
+    println!("|---|---:|---:|---:|---:|---:|---:|");
     for (shape, make) in shapes::ALL {
         let all = times(&make(NODES).bytes());
         let plain = all[0];
         let [least, most] = ends(all[1..].iter().copied());
+        let copy = all[1..].iter().position(|&time| time == most).unwrap_or(0);
         let cells = [plain, least, most].map(grouped).join(" | ");
-        println!("| {shape} | {cells} | {:.2} | {:.2} |", least / plain, most / plain);
+        println!("| {shape} | {cells} | {:.2} | {:.2} | {copy} |", least / plain, most / plain);
     }
 }
 

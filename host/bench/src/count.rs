@@ -111,7 +111,8 @@ pub fn run(side: &str, name: &str, times: &str) -> Result<(), String> {
     let times: u64 = times.parse().map_err(|_| format!("{times} is no number"))?;
     let found = cases().into_iter().find(|case| case.name == name);
     let Case { unit, make, .. } = found.ok_or(format!("no case {name}"))?;
-    let (check, side, (_, file)) = (checks()[number], entries()[2 - number], make());
+    let side = entries().get(2 - number).copied().ok_or("the proved machine is not linked")?;
+    let (check, (_, file)) = (checks()[number], make());
     match unit {
         Unit::Check => (0..times).for_each(|_| ask(check, &file)),
         Unit::Run { reached, allowance } => {
