@@ -11,6 +11,14 @@ mod machine;
 use bench::timing::{ask, checks, judged, medians_of_all, Call};
 use generators::{late, shapes};
 
+// Bytes before the program's functions, none unless PANELRUE_SHIFT asks for some at the build: where code lies changes its time.
+#[cfg(all(target_arch = "x86_64", target_os = "linux"))]
+std::arch::global_asm!(
+    ".pushsection .text.panelrue_shift, \"axR\", @progbits",
+    concat!(".skip ", env!("PANELRUE_SHIFT")),
+    ".popsection",
+);
+
 /// The numbers of nodes timed.
 const SIZES: [usize; 6] = [128, 256, 512, 1024, 2048, 4096];
 

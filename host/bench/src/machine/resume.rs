@@ -62,7 +62,7 @@ fn by_state(sides: &Sides) {
 /// Runs of no steps and of 100 steps in the small files that run without end.
 fn small(sides: &Sides) {
     let name = sides.judged.name;
-    println!("\n| small file | nodes | {name} ns, no steps | plain ns | ratio | {name} ns, 100 steps | plain ns | ratio |");
+    println!("\n| small file | nodes | {name} ns, no steps | plain ns | ratio, no steps | {name} ns, 100 steps | plain ns | ratio, 100 steps |");
     println!("|---|---:|---:|---:|---:|---:|---:|---:|");
     let mut ratios = [Vec::new(), Vec::new()];
     for (program, make) in endless::ALL {
