@@ -2,11 +2,22 @@
 //!
 //! Without the feature `proved` the reference stands where the proved check would.
 
+#[cfg(feature = "copies")]
+mod alignments;
 mod cases;
+mod count;
 mod machine;
 
 use bench::timing::{ask, checks, judged, medians_of_all, Call};
 use generators::{late, shapes};
+
+// Bytes before the program's functions, none unless PANELRUE_SHIFT asks for some at the build: where code lies changes its time.
+#[cfg(all(target_arch = "x86_64", target_os = "linux"))]
+std::arch::global_asm!(
+    ".pushsection .text.panelrue_shift, \"axR\", @progbits",
+    concat!(".skip ", env!("PANELRUE_SHIFT")),
+    ".popsection",
+);
 
 /// The numbers of nodes timed.
 const SIZES: [usize; 6] = [128, 256, 512, 1024, 2048, 4096];
@@ -161,9 +172,37 @@ fn run() {
     machine::run();
 }
 
+/// What the program can be asked.
+const USAGE: &str = "\
+bench                         prints the tables of times
+bench cases                   prints how often each case is to be counted, its nodes and its name
+bench count SIDE CASE TIMES   does a case so many times on `proved` or `plain`
+bench alignments DEPTH        prints the times of copies of the library, so many calls further down the stack";
+
+/// Does what the words ask.
+fn asked() -> Result<(), String> {
+    let words: Vec<String> = std::env::args().skip(1).collect();
+    let words: Vec<&str> = words.iter().map(String::as_str).collect();
+    match words[..] {
+        [] => run(),
+        ["cases"] => count::list(),
+        #[cfg(feature = "copies")]
+        ["alignments", depth] => return alignments::run(depth),
+        ["count", side, case, times] => return count::run(side, case, times),
+        _ => return Err(USAGE.to_string()),
+    }
+    Ok(())
+}
+
 /// Runs on a thread whose stack holds the deepest trees.
 fn main() -> std::process::ExitCode {
-    let thread = std::thread::Builder::new().stack_size(64 << 20).spawn(run);
-    let done = matches!(thread.map(|t| t.join()), Ok(Ok(())));
+    let thread = std::thread::Builder::new().stack_size(64 << 20).spawn(asked);
+    let done = match thread.map(|t| t.join()) {
+        Ok(Ok(Err(reason))) => {
+            eprintln!("{reason}");
+            false
+        }
+        other => matches!(other, Ok(Ok(Ok(())))),
+    };
     std::process::ExitCode::from(u8::from(!done))
 }

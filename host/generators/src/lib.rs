@@ -12,6 +12,7 @@ pub mod late;
 pub mod lively;
 mod lively_expr;
 mod lively_stmt;
+pub mod nested;
 pub mod noise;
 mod plan;
 pub mod record;

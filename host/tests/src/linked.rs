@@ -24,10 +24,15 @@ macro_rules! linked {
             extern "C" {
                 /// 0 for an accepted file, else the packed refusal.
                 #[link_name = concat!($prefix, "panelrue_check")]
-                fn panelrue_check(file: *const u8, len: usize) -> u64;
+                pub fn panelrue_check(file: *const u8, len: usize) -> u64;
                 /// The same of a start, which writes the memory where it answers 0.
                 #[link_name = concat!($prefix, "panelrue_start")]
-                fn panelrue_start(file: *const u8, len: usize, memory: *mut u32, words: usize) -> u64;
+                pub fn panelrue_start(
+                    file: *const u8,
+                    len: usize,
+                    memory: *mut u32,
+                    words: usize,
+                ) -> u64;
             }
 
             /// The check's answer.

@@ -61,7 +61,7 @@ pub fn entries() -> Vec<Entries> {
     ]
 }
 
-/// A group's outcome, in which a panic counts as a failure.
+/// A group's outcome, in which a panic counts as a failure; where panics do not unwind, as in a release, it ends the program and fails it.
 fn guarded(group: &dyn Fn() -> Outcome) -> Outcome {
     let panicked = |_| Outcome { failed: 1, ..Outcome::default() };
     catch_unwind(AssertUnwindSafe(group)).unwrap_or_else(panicked)

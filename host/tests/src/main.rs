@@ -27,7 +27,7 @@ impl Total {
 /// The stack that the checks get for the worked files, which include the deepest trees.
 const SMALL_STACK: usize = 1 << 20;
 
-/// One group's files on one side, on a small stack; a panic counts as a failure.
+/// One group's files on one side, on a small stack; a panic counts as a failure or ends the program and fails it.
 fn run_group(group: &Group, side: &Side) -> Outcome {
     let judge = || {
         let mut outcome = Outcome::default();
@@ -114,12 +114,61 @@ fn run() -> Total {
     #[cfg(feature = "proved")]
     total.add("start, answer and memory", "proved", &tests::starts::outcome());
     machine::run(&mut |group, side, outcome| total.add(group, side, outcome));
+    #[cfg(all(feature = "machine", target_arch = "x86_64", target_os = "linux"))]
+    total.add("stack of every entry point", "proved", &tests::stack::outcome());
     total
+}
+
+/// The limits that two words say, and those of the library where there are none.
+#[cfg(all(feature = "machine", target_arch = "x86_64", target_os = "linux"))]
+fn limits(words: &[String]) -> Option<tests::stack::Limits> {
+    match words {
+        [] => Some(tests::stack::LIMITS),
+        [small, any] => {
+            Some(tests::stack::Limits { small: small.parse().ok()?, any: any.parse().ok()? })
+        }
+        _ => None,
+    }
+}
+
+/// What the stack is asked: `stack` prints what every call needs, `stack held [SMALL ANY]` holds it to limits too, and
+/// `stack threads [SMALL ANY]` makes every call on threads with so much.
+#[cfg(all(feature = "machine", target_arch = "x86_64", target_os = "linux"))]
+fn stack(words: &[String]) -> Option<bool> {
+    let (first, rest) = words.split_first()?;
+    match (first.as_str(), words.get(1).map(String::as_str)) {
+        ("stack", None) => Some(tests::stack::run(None)),
+        ("stack", Some("held")) => Some(tests::stack::run(Some(limits(&rest[1..])?))),
+        ("stack", Some("threads")) => Some(tests::stack::on_threads(limits(&rest[1..])?)),
+        _ => None,
+    }
+}
+
+/// Without the proved library, and on other machines, nothing of the stack is measured.
+#[cfg(not(all(feature = "machine", target_arch = "x86_64", target_os = "linux")))]
+fn stack(_: &[String]) -> Option<bool> {
+    None
+}
+
+/// Everything, or what the words ask.
+fn asked() -> Total {
+    let words: Vec<String> = std::env::args().skip(1).collect();
+    if words.is_empty() {
+        return run();
+    }
+    match stack(&words) {
+        Some(true) => Total { passed: 1, failed: 0 },
+        Some(false) => Total { passed: 0, failed: 1 },
+        None => {
+            eprintln!("tests [stack [held [SMALL ANY] | threads [SMALL ANY]]], on x86-64 Linux with the feature `machine`");
+            Total { passed: 0, failed: 1 }
+        }
+    }
 }
 
 /// Prints the sum last and fails if anything failed.
 fn main() -> std::process::ExitCode {
-    let thread = std::thread::Builder::new().stack_size(64 << 20).spawn(run);
+    let thread = std::thread::Builder::new().stack_size(64 << 20).spawn(asked);
     let total = thread.map(|t| t.join());
     let total = match total {
         Ok(Ok(total)) => total,

@@ -47,7 +47,7 @@ macro_rules! linked_machine {
         extern "C" {
             /// 0 where the memory holds the image of a fit state, else the packed refusal.
             #[link_name = concat!($prefix, "panelrue_memory_check")]
-            fn panelrue_memory_check(
+            pub fn panelrue_memory_check(
                 file: *const u8,
                 len: usize,
                 memory: *const u32,
@@ -55,7 +55,7 @@ macro_rules! linked_machine {
             ) -> u64;
             /// 0 with outcome, int and steps in the answer, else the packed refusal.
             #[link_name = concat!($prefix, "panelrue_run")]
-            fn panelrue_run(
+            pub fn panelrue_run(
                 file: *const u8,
                 len: usize,
                 memory: *mut u32,
@@ -66,7 +66,7 @@ macro_rules! linked_machine {
             ) -> u64;
             /// 0 with the type and the word in the answer, else the packed refusal.
             #[link_name = concat!($prefix, "panelrue_look_up")]
-            fn panelrue_look_up(
+            pub fn panelrue_look_up(
                 file: *const u8,
                 len: usize,
                 memory: *const u32,
