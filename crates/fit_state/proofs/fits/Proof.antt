@@ -1,3 +1,5 @@
+use native.Mathlib.Omega.{arith}
+use Rattle.fit_frames.proofs.Files.{laid}
 use Rattle.fit_state.proofs.Rests.{fit-rest}
 use Rattle.spec_machine.specs.File.{programOf}
 use mathlib.Core.Path.{sym}
@@ -11,6 +13,15 @@ shared-slice-read-if1 c = search needs
 returns : tie.Need-returns
 returns c = let a = c .before .before .before .before .args in λ s R e w n. sym (fit-rest (programOf (a .file .now)) (a .m .now) s R e w n (λ i. c .before .before .shared-slice-known2 .given i .fits) (c .if1 .taken))
 
+function-count-requires : tie.Need-function-count-requires
+function-count-requires c κs = let h = laid _ (c .before .before .before .before .pre .0) .heads in omega arith
+
+add-if2 : tie.Need-add-if2
+add-if2 c = search needs
+
+add-if2-2 : tie.Need-add-if2-2
+add-if2-2 c = search needs
+
 mul-if2 : tie.Need-mul-if2
 mul-if2 c = search needs
 
@@ -19,6 +30,12 @@ short-fits-requires c κs = search needs
 
 returns-2 : tie.Need-returns-2
 returns-2 c = search needs
+
+add-if3 : tie.Need-add-if3
+add-if3 c = search needs
+
+add-if3-2 : tie.Need-add-if3-2
+add-if3-2 c = search needs
 
 mul-if3 : tie.Need-mul-if3
 mul-if3 c = search needs
@@ -41,9 +58,14 @@ fits-spec =
     (tie.spec
     shared-slice-read-if1
     returns
+    function-count-requires
+    add-if2
+    add-if2-2
     mul-if2
     short-fits-requires
     returns-2
+    add-if3
+    add-if3-2
     mul-if3
     middle-fits-requires
     returns-3
