@@ -8,6 +8,7 @@ use records::format::MIDDLE_NODES;
 use records::format::MOST_NODES;
 use records::format::RECORD;
 use records::format::SHORT_NODES;
+use records::format::TINY_NODES;
 use records::format::TOO_LONG;
 use records::format::TYPE_UNSET;
 use records::function_count;
@@ -18,7 +19,7 @@ ghost use lib.ListN.{length};
 ghost use Rattle.records.specs.Fields.{functions};
 ghost use Rattle.records.specs.Parts.{Laid};
 ghost use Rattle.check_file.specs.Answers.{Small};
-ghost use Rattle.check_file.specs.Stages.{PassedBefore, PartsWithin, AnswersTo, AtFlows};
+ghost use Rattle.check_file.specs.Stages.{FloorIs, PartsWithin, AnswersTo, AtFlows};
 
 // The lower of two questions.
 fn lower(a: u8, b: u8) -> u8
@@ -34,11 +35,18 @@ pub fn greater(a: u8, b: u8) -> u8
     if a < b { b } else { a }
 }
 
+// The question before which those from the least on are asked first: 10 is left out where it passes.
+pub fn before_ten(least: u8) -> u8
+    ensures { λ r. ⌜ (7 < least → r ≡ 10) × (least ≤ 7 → r ≡ 11) ⌝ }
+{
+    if 7 < least { 10 } else { 11 }
+}
+
 // The least question from 7 on that may fail in some part, by one pass over the nodes of each; 15 where none does.
 fn parts_floor(file: &[u8], codes: &mut [u8], reads: &mut [u64], sets: &mut [u64]) -> u8
     requires laid { ⌜ Laid (now file) ⌝ }
     requires room { ⌜ PartsWithin (now file) (length (now codes)) × PartsWithin (now file) (length (now reads)) × PartsWithin (now file) (length (now sets)) ⌝ }
-    ensures { λ r. ⌜ PassedBefore (now (file .entry)) r × (7 ≤ r) × (r ≤ 15) ⌝ }
+    ensures { λ r. ⌜ FloorIs (now (file .entry)) r ⌝ }
 {
     let functions = function_count(file);
     let mut least = 15;
@@ -59,21 +67,36 @@ fn parts_floor(file: &[u8], codes: &mut [u8], reads: &mut [u64], sets: &mut [u64
     least
 }
 
+// Files of up to 32 nodes.
+fn tiny_floor(file: &[u8]) -> u8
+    requires { ⌜ Laid (now file) × (length (now file) ≤ 12 * (1 + functions (now file) + 32)) ⌝ }
+    ensures { λ r. ⌜ FloorIs (now (file .entry)) r ⌝ }
+{
+    let mut types = [TYPE_UNSET; TINY_NODES];
+    let mut reads = [0u64; TINY_NODES];
+    let mut sets = [0u64; TINY_NODES];
+    parts_floor(file, &mut types, &mut reads, &mut sets)
+}
+
 // Files of up to 256 nodes.
-fn short_floor(file: &[u8]) -> u8
+fn short_floor(file: &[u8], k: usize) -> u8
     requires { ⌜ Laid (now file) × (length (now file) ≤ 12 * (1 + functions (now file) + 256)) ⌝ }
-    ensures { λ r. ⌜ PassedBefore (now (file .entry)) r × (7 ≤ r) × (r ≤ 15) ⌝ }
+    ensures { λ r. ⌜ FloorIs (now (file .entry)) r ⌝ }
 {
     let mut types = [TYPE_UNSET; SHORT_NODES];
     let mut reads = [0u64; SHORT_NODES];
     let mut sets = [0u64; SHORT_NODES];
-    parts_floor(file, &mut types, &mut reads, &mut sets)
+    let own = parts_floor(file, &mut types, &mut reads, &mut sets);
+    if 0 < k {
+        return lower(own, short_floor(file, k - 1));
+    }
+    own
 }
 
 // Files of up to 1,024 nodes.
 fn middle_floor(file: &[u8], k: usize) -> u8
     requires { ⌜ Laid (now file) × (length (now file) ≤ 12 * (1 + functions (now file) + 1024)) ⌝ }
-    ensures { λ r. ⌜ PassedBefore (now (file .entry)) r × (7 ≤ r) × (r ≤ 15) ⌝ }
+    ensures { λ r. ⌜ FloorIs (now (file .entry)) r ⌝ }
 {
     let mut types = [TYPE_UNSET; MIDDLE_NODES];
     let mut reads = [0u64; MIDDLE_NODES];
@@ -88,7 +111,7 @@ fn middle_floor(file: &[u8], k: usize) -> u8
 // All files.
 fn long_floor(file: &[u8], k: usize) -> u8
     requires { ⌜ Laid (now file) ⌝ }
-    ensures { λ r. ⌜ PassedBefore (now (file .entry)) r × (7 ≤ r) × (r ≤ 15) ⌝ }
+    ensures { λ r. ⌜ FloorIs (now (file .entry)) r ⌝ }
 {
     let mut types = [TYPE_UNSET; MOST_NODES];
     let mut reads = [0u64; MOST_NODES];
@@ -103,13 +126,16 @@ fn long_floor(file: &[u8], k: usize) -> u8
 // The least question from 7 on that may fail; 15 where none does.
 pub fn file_floor(file: &[u8]) -> u8
     requires { ⌜ Laid (now file) ⌝ }
-    ensures { λ r. ⌜ PassedBefore (now (file .entry)) r × (7 ≤ r) × (r ≤ 15) ⌝ }
+    ensures { λ r. ⌜ FloorIs (now (file .entry)) r ⌝ }
 {
     let functions = function_count(file);
-    if file.len() <= RECORD * (1 + functions + SHORT_NODES) {
-        return short_floor(file);
+    if file.len() <= RECORD * (1 + functions + TINY_NODES) {
+        return tiny_floor(file);
     }
     let k = file.len() / TOO_LONG;
+    if file.len() <= RECORD * (1 + functions + SHORT_NODES) {
+        return short_floor(file, k);
+    }
     if file.len() <= RECORD * (1 + functions + MIDDLE_NODES) {
         return middle_floor(file, k);
     }

@@ -1,6 +1,7 @@
 -- A part that passes the questions, from what each of them shows.
 use mathlib.Core.Path.{_≡_}
 use mathlib.Core.List.{List}
+use mathlib.Core.Logic.{inl, inr}
 use Prim.Native.Nat.{ℕ, _*_, _-_, _≤_, _<_}
 use native.Mathlib.Omega.{arith}
 use lib.ListN.{length, getD}
@@ -23,7 +24,8 @@ module _ (s : List ℕ) (f : ℕ) (t : List ℕ) (n : ℕ) where
 
   pub clear : {begun : Set} {decls : List ℕ} {r : ℕ} → begun ≡ below (paramsOf s f) → Surveyed s f t n decls → Passed s f t n begun r → r ≤ 15 → ClearBelow s f t n r
   unfolding answers
-  clear {begun} {decls} {r} b k p top q low high =
+  clear {begun} {decls} {r} b k p top q low (inl high) =
       seven-to-fourteen (λ m. m < r → getD (answers s f t n) (m - 7) Nothing ≡ Nothing) (λ h. k .seven) (λ h. pass-all (sizeOk t n) n (p .sized h)) (λ h. none-fails (misplaced t n) n (p .placed h))
       (λ h. k .ten) (λ h. none-fails (outside s f t n) n (p .scoped h)) (λ h. none-fails (mistyped s f t n) n (p .typed h)) (λ h. rw (← b) (p .reading h)) (λ h. none-unless _ 0 (p .returning h))
       q low (omega arith) high
+  clear {begun} {decls} {r} b k p top q low (inr high) = rw (high .0) (k .ten)

@@ -5,6 +5,7 @@ mod tables;
 use crate::tables::long_fits;
 use crate::tables::middle_fits;
 use crate::tables::short_fits;
+use crate::tables::tiny_fits;
 use fit_frames::Next;
 use fit_frames::descent::begin;
 use fit_frames::descent::frames_fit;
@@ -15,6 +16,7 @@ use records::format::MIDDLE_NODES;
 use records::format::MOST_FUNCTIONS;
 use records::format::RECORD;
 use records::format::SHORT_NODES;
+use records::format::TINY_NODES;
 use records::format::TOO_LONG;
 use records::format::VARIABLE_ENTRIES;
 use records::function_count;
@@ -260,6 +262,9 @@ pub fn fits(file: &[u8], m: &[u32]) -> bool
         return true;
     }
     let functions = function_count(file);
+    if file.len() <= RECORD * (1 + functions + TINY_NODES) {
+        return tiny_fits(file, m);
+    }
     let k = file.len() / TOO_LONG;
     if file.len() <= RECORD * (1 + functions + SHORT_NODES) {
         return short_fits(file, m, k);

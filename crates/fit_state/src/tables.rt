@@ -3,6 +3,7 @@ use crate::running_fits;
 use records::format::MIDDLE_NODES;
 use records::format::MOST_NODES;
 use records::format::SHORT_NODES;
+use records::format::TINY_NODES;
 ghost use mathlib.Core.Path.{_≡_};
 ghost use mathlib.Core.List.{List, _++_};
 ghost use Prim.Native.Nat.{ℕ, _+_, _*_, _≤_};
@@ -17,6 +18,16 @@ ghost use Rattle.spec_machine.specs.Test.{fit};
 ghost use Rattle.spec_image.specs.Image.{image};
 ghost use Rattle.spec_image.specs.Narrow.{Narrow};
 ghost use Rattle.fit_state.specs.HoldsState.{HoldsState};
+
+// Whether the running state is fit for the program of a file of up to 32 nodes.
+pub fn tiny_fits(file: &[u8], m: &[u32]) -> bool
+    requires file { ⌜ (checkOf (now file) ≡ accepted) × (size ≤ length (now m)) × HoldsState (now m) × (getD (now m) 0 0 ≡ 2) ⌝ }
+    requires room { ⌜ length (now file) ≤ 12 * (1 + functions (now file) + 32) ⌝ }
+    ensures { λ r. ⌜ ((s : State) (R : List ℕ) → now (m .entry) ≡ image s ++ R → WithinLimits s → Narrow s → r ≡ fit (programOf (now (file .entry))) s) ⌝ }
+{
+    let mut table = [0u64; 5 * TINY_NODES];
+    running_fits(file, &mut table, m)
+}
 
 // Whether the running state is fit for the program of a short file; the call to itself, which no accepted file comes to, keeps the table out of the caller's frame.
 pub fn short_fits(file: &[u8], m: &[u32], k: usize) -> bool

@@ -42,9 +42,13 @@ pub const SHORTEST_FILE: usize = 36;
 // The bytes of the longest file.
 pub const LONGEST_FILE: usize = 50700;
 
-// The most records of a short file, and of a middling one: working arrays are chosen by them.
+// The most nodes of a tiny file: working arrays are chosen by these three numbers.
+pub const TINY_NODES: usize = 32;
+
+// The most nodes of a short file.
 pub const SHORT_NODES: usize = 256;
 
+// The most nodes of a middling file.
 pub const MIDDLE_NODES: usize = 1024;
 
 // More bytes than any file has that passes question 3.

@@ -1,7 +1,9 @@
+use mathlib.Core.Logic.{⊎-elim}
+use Prim.Native.Nat.{_<_}
 use Rattle.check_pass.proofs.Clearing.{part-known, clear}
 use Rattle.check_scopes.proofs.Decls.{noted-none}
 use borrow.Author.Tests.{not-false}
-use mathlib.Core.Path.{refl, _∙_}
+use mathlib.Core.Path.{_≡_, refl, _∙_}
 use native.Mathlib.Omega.{arith}
 use borrow.Author.Needs.{needs}
 use Rattle.check_pass.proofs.part_floor.Statement.{statement}
@@ -11,7 +13,7 @@ survey-part-requires : tie.Need-survey-part-requires
 survey-part-requires c κs = (c .before .before .before .before .before .before .pre .0, (c .before .before .before .before .before .before .pre .1 .0 .0, noted-none _))
 
 returns : tie.Need-returns
-returns c = ((λ q h k. absurd (omega arith), omega arith, omega arith), (refl, refl, refl))
+returns c = ((λ q h k. ⊎-elim (λ (z : q < 7). absurd (omega arith)) (λ (z : (q ≡ 10) × (7 < 7)). absurd (omega (arith, z .1))) k, omega arith, omega arith), (refl, refl, refl))
 
 params-of-requires : tie.Need-params-of-requires
 params-of-requires c κs = search needs

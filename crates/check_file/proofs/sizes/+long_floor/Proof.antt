@@ -51,7 +51,7 @@ long-floor-lower-requires : (t : ℕ) → long-floor-lts.Need-lower-requires (cl
 long-floor-lower-requires t c κs = search needs
 
 long-floor-returns : (t : ℕ) → long-floor-lts.Need-returns (claims t) (long-floor-at t) long-floor.Post
-long-floor-returns t c = (fewer-passed _ (c .lower .ensures .0) (c .before .before .before .before .before .before .parts-floor .ensures .0), c .lower .ensures .2 (c .before .before .before .before .before .before .parts-floor .ensures .1) (c .before .long-floor .ensures .1), omega (arith, c .lower .ensures .0, c .before .before .before .before .before .before .parts-floor .ensures .2))
+long-floor-returns t c = (fewer-passed _ (c .lower .ensures .0) (c .before .before .before .before .before .before .parts-floor .ensures .0), c .lower .ensures .2 (c .before .before .before .before .before .before .parts-floor .ensures .1) (c .before .long-floor .ensures .1), omega (arith, c .lower .ensures .0, c .before .before .before .before .before .before .parts-floor .ensures .2), λ z. c .before .before .before .before .before .before .parts-floor .ensures .3 (omega (arith, z, c .lower .ensures .0)))
 
 long-floor-returns-2 : (t : ℕ) → long-floor-lts.Need-returns-2 (claims t) (long-floor-at t) long-floor.Post
 long-floor-returns-2 t c = c .before .before .before .before .parts-floor .ensures

@@ -50,7 +50,7 @@ middle-floor-lower-requires : (t : ℕ) → middle-floor-lts.Need-lower-requires
 middle-floor-lower-requires t c κs = search needs
 
 middle-floor-returns : (t : ℕ) → middle-floor-lts.Need-returns (claims t) (middle-floor-at t) middle-floor.Post
-middle-floor-returns t c = (fewer-passed _ (c .lower .ensures .0) (c .before .before .before .before .before .before .parts-floor .ensures .0), c .lower .ensures .2 (c .before .before .before .before .before .before .parts-floor .ensures .1) (c .before .middle-floor .ensures .1), omega (arith, c .lower .ensures .0, c .before .before .before .before .before .before .parts-floor .ensures .2))
+middle-floor-returns t c = (fewer-passed _ (c .lower .ensures .0) (c .before .before .before .before .before .before .parts-floor .ensures .0), c .lower .ensures .2 (c .before .before .before .before .before .before .parts-floor .ensures .1) (c .before .middle-floor .ensures .1), omega (arith, c .lower .ensures .0, c .before .before .before .before .before .before .parts-floor .ensures .2), λ z. c .before .before .before .before .before .before .parts-floor .ensures .3 (omega (arith, z, c .lower .ensures .0)))
 
 middle-floor-returns-2 : (t : ℕ) → middle-floor-lts.Need-returns-2 (claims t) (middle-floor-at t) middle-floor.Post
 middle-floor-returns-2 t c = c .before .before .before .before .parts-floor .ensures
