@@ -9,6 +9,8 @@
  * beside it says, aligned for their type; what a call may write (memory of start and run, answer) overlaps nothing else that the call
  * gets; and nobody else writes any of it until the call returns. Content is never owed: any bytes, words and numbers are taken.
  *
+ * A call needs at most PANELRUE_STACK_SHORT bytes of stack where the file has at most 256 nodes, and PANELRUE_STACK_ANY on any input.
+ *
  * Each function answers 0 where the call is accepted. Else the number says the question that refused it (1 to 17), the place and the
  * item; PANELRUE_QUESTION, PANELRUE_PLACE and PANELRUE_ITEM take it apart. A refused call changes nothing.
  */
@@ -23,15 +25,22 @@ extern "C" {
 
 /* The version of the library, as CHANGELOG.md numbers it. */
 #define PANELRUE_VERSION_MAJOR 0
-#define PANELRUE_VERSION_MINOR 4
+#define PANELRUE_VERSION_MINOR 5
 #define PANELRUE_VERSION_PATCH 0
-#define PANELRUE_VERSION "0.4.0"
+#define PANELRUE_VERSION "0.5.0"
 
 /*
  * A length: of a file in bytes, of a memory and of room for an answer in words. It has 64 bits on every processor, where size_t may have
  * 32 and would be passed in another way.
  */
 typedef uint64_t panelrue_size;
+
+/*
+ * The bytes of stack that a call may need on x86-64, with a file of at most 256 nodes and with any: measured by the tests, which fail above
+ * them, and no part of the proof. Frames on other processors are about as large; `c/port` prints the largest.
+ */
+#define PANELRUE_STACK_SHORT 32768
+#define PANELRUE_STACK_ANY 262144
 
 /* The bytes of the longest procedure that can pass: a header, 128 functions and 4,096 nodes of 12 bytes each. */
 #define PANELRUE_LONGEST_FILE 50700

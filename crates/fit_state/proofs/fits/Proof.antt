@@ -25,8 +25,8 @@ add-if2-2 c = search needs
 mul-if2 : tie.Need-mul-if2
 mul-if2 c = search needs
 
-short-fits-requires : tie.Need-short-fits-requires
-short-fits-requires c κs = search needs
+tiny-fits-requires : tie.Need-tiny-fits-requires
+tiny-fits-requires c κs = search needs
 
 returns-2 : tie.Need-returns-2
 returns-2 c = search needs
@@ -40,17 +40,32 @@ add-if3-2 c = search needs
 mul-if3 : tie.Need-mul-if3
 mul-if3 c = search needs
 
-middle-fits-requires : tie.Need-middle-fits-requires
-middle-fits-requires c κs = search needs
+short-fits-requires : tie.Need-short-fits-requires
+short-fits-requires c κs = search needs
 
 returns-3 : tie.Need-returns-3
 returns-3 c = search needs
 
-long-fits-requires : tie.Need-long-fits-requires
-long-fits-requires c κs = search needs
+add-if4 : tie.Need-add-if4
+add-if4 c = search needs
+
+add-if4-2 : tie.Need-add-if4-2
+add-if4-2 c = search needs
+
+mul-if4 : tie.Need-mul-if4
+mul-if4 c = search needs
+
+middle-fits-requires : tie.Need-middle-fits-requires
+middle-fits-requires c κs = search needs
 
 returns-4 : tie.Need-returns-4
 returns-4 c = search needs
+
+long-fits-requires : tie.Need-long-fits-requires
+long-fits-requires c κs = search needs
+
+returns-5 : tie.Need-returns-5
+returns-5 c = search needs
 
 pub fits-spec : {M : Type 1} → statement M
 fits-spec =
@@ -62,12 +77,17 @@ fits-spec =
     add-if2
     add-if2-2
     mul-if2
-    short-fits-requires
+    tiny-fits-requires
     returns-2
     add-if3
     add-if3-2
     mul-if3
-    middle-fits-requires
+    short-fits-requires
     returns-3
+    add-if4
+    add-if4-2
+    mul-if4
+    middle-fits-requires
+    returns-4
     long-fits-requires
-    returns-4)
+    returns-5)
