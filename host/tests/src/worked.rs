@@ -1,6 +1,7 @@
 //! The table of worked files.
 
 mod base;
+mod borders;
 mod deep;
 mod flow;
 mod head;
@@ -41,5 +42,6 @@ pub fn groups() -> Vec<Group> {
         returns::question_14(),
         deep::accepted(),
         deep::refused(),
+        borders::group(),
     ]
 }
