@@ -1,7 +1,6 @@
 -- The walk over the parts that pass up to a question.
-use mathlib.Core.Path.{_≡_, refl}
+use mathlib.Core.Path.{_≡_}
 use mathlib.Core.List.{List}
-use mathlib.Core.Logic.{inl, inr}
 use Prim.Native.Nat.{ℕ, _+_, _*_, _-_, _≤_, _<_}
 use native.Mathlib.Omega.{arith}
 use native.Mathlib.Decide.{decLt}
@@ -9,17 +8,9 @@ use lib.ListN.{length, take, drop}
 use Rattle.records.specs.Fields.{functions, countOf}
 use Rattle.records.specs.Parts.{startOf, partOf, Laid}
 use Rattle.records.proofs.PartWalks.{part-taken, part-length, part-fits}
-use Rattle.records.specs.Search.{firstIn}
-use Rattle.records.specs.declared.Found.the-variants.{Nothing}
-use Rattle.spec_language.specs.Check.{inPart}
 use Rattle.spec_language.proofs.Accept.{none-asked}
-use Rattle.check_pass.specs.Passed.{Before, ClearBelow}
+use Rattle.check_pass.specs.Passed.{ClearBelow}
 use Rattle.check_file.specs.Stages.{PassedBefore, PartsWithin}
-
--- a lower question speaks of fewer
-sooner : {a b q : ℕ} → a ≤ b → Before a q → Before b q
-sooner l (inl h) = inl (omega arith)
-sooner l (inr h) = inr (h .0, omega (arith, h .1))
 
 module _ (s : List ℕ) where
   -- in the parts of the first f functions the questions from 7 to before r find nothing
@@ -30,10 +21,7 @@ module _ (s : List ℕ) where
   cleared-none r = record { at = λ k l. absurd (omega arith) }
 
   pub cleared-all : (f F r : ℕ) → F ≡ functions s → F ≤ f → Cleared f r → PassedBefore s r
-  cleared-all f F r e l h q p m = none-asked s q (λ k n. h .at k (omega arith) q p (inl m))
-
-  pub cleared-ten : (f F r : ℕ) → F ≡ functions s → F ≤ f → Cleared f r → 7 < r → firstIn (inPart 10 s) (functions s) 0 ≡ Nothing
-  cleared-ten f F r e l h m = none-asked s 10 (λ k n. h .at k (omega arith) 10 (omega arith) (inr (refl, m)))
+  cleared-all f F r e l h q p m = none-asked s q (λ k n. h .at k (omega arith) q p m)
 
 module _ (s : List ℕ) (laid : Laid s) {F f start n : ℕ} (e : F ≡ functions s) (l : f < F) (a : start ≡ startOf s f) (b : n ≡ countOf s f) where
   known-function : f < functions s
@@ -59,8 +47,8 @@ module _ (s : List ℕ) (laid : Laid s) {F f start n : ℕ} (e : F ≡ functions
   cleared-next {own} {least} {lowest} u w h c = record { at = λ k m. go k m (decLt k f) }
     where
       go : (k : ℕ) → k < f + 1 → Dec (k < f) → ClearBelow s k (partOf s k) (countOf s k) lowest
-      go k m (yes p) q x y = h .at k p q x (sooner w y)
+      go k m (yes p) q x y = h .at k p q x (omega arith)
       go k m (no p) q x y =
           let z : k ≡ f = omega arith in
           let t : taken ≡ partOf s f = part-taken s f a b in
-          rw z (rw (t, b) at (c q x (sooner u y)))
+          rw z (rw (t, b) at (c q x (omega arith)))

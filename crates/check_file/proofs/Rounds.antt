@@ -110,18 +110,3 @@ greater-passed s {a} {b} {r} h k u v = go (decLe a b)
     go : Dec (a ≤ b) → PassedBefore s r
     go (yes l) = rw (v l) k
     go (no l) = rw (u (omega arith)) h
-
--- the questions before 11 find nothing where those before the end of the first round do not, and 10 does not
-pub past-ten : (s : List ℕ) {least r : ℕ} → PassedBefore s r → (7 < least → firstIn (inPart 10 s) (functions s) 0 ≡ Nothing) → (7 < least → r ≡ 10) → (least ≤ 7 → r ≡ 11) → PassedBefore s 11
-past-ten s {least} {r} h t u v = go (decLt 7 least)
-  where
-    go : Dec (7 < least) → PassedBefore s 11
-    go (yes l) = more-passed s 10 (rw (u l) at h) (t l)
-    go (no l) = rw (v (omega arith)) at h
-
-pub ten-or-eleven : {least r : ℕ} → (7 < least → r ≡ 10) → (least ≤ 7 → r ≡ 11) → r ≤ 11
-ten-or-eleven {least} {r} u v = go (decLt 7 least)
-  where
-    go : Dec (7 < least) → r ≤ 11
-    go (yes l) = omega (arith, u l)
-    go (no l) = omega (arith, v (omega arith))

@@ -28,9 +28,9 @@ fromFour s =
 abbrev pub PassedBefore : List ℕ → ℕ → Type 0
 PassedBefore s q = (k : ℕ) → 7 ≤ k → k < q → firstIn (inPart k s) (functions s) 0 ≡ Nothing
 
--- the least question that may fail is r or a later one, and 10 is not where r is above 7
+-- the least question that may fail is r or a later one
 abbrev pub FloorIs : List ℕ → ℕ → Type 0
-FloorIs s r = PassedBefore s r × (7 ≤ r) × (r ≤ 15) × (7 < r → firstIn (inPart 10 s) (functions s) 0 ≡ Nothing)
+FloorIs s r = PassedBefore s r × (7 ≤ r) × (r ≤ 15)
 
 -- past question 9 the nodes of every function are known, and past question 12 they are those of a tree
 abbrev pub Ready : List ℕ → ℕ → Type 0

@@ -127,10 +127,7 @@ fn check_parts(file: &[u8]) -> Answer
         return Answer::Accepted;
     }
     let mut none = [0u64; 1];
-    if let Answer::Refused(refusal) = ask(file, least, sizes::before_ten(least), &mut none) {
-        return Answer::Refused(refusal);
-    }
-    if let Answer::Refused(refusal) = ask(file, sizes::greater(least, 11), 13, &mut none) {
+    if let Answer::Refused(refusal) = ask(file, least, 13, &mut none) {
         return Answer::Refused(refusal);
     }
     sizes::check_flows(file, sizes::greater(least, 13))

@@ -3,6 +3,7 @@
 // The compiler puts the arrays of a function that it inlines into the caller's frame. A function that calls itself is not inlined, so those
 // with large arrays do, k times; k is 0 for every file of up to 65,535 bytes, and none longer than 50,700 comes here.
 use crate::Answer;
+use check_rest::lower;
 use records::count_of;
 use records::format::MIDDLE_NODES;
 use records::format::MOST_NODES;
@@ -21,25 +22,11 @@ ghost use Rattle.records.specs.Parts.{Laid};
 ghost use Rattle.check_file.specs.Answers.{Small};
 ghost use Rattle.check_file.specs.Stages.{FloorIs, PartsWithin, AnswersTo, AtFlows};
 
-// The lower of two questions.
-fn lower(a: u8, b: u8) -> u8
-    ensures { λ r. ⌜ (r ≤ a) × (r ≤ b) × (7 ≤ a → 7 ≤ b → 7 ≤ r) ⌝ }
-{
-    if a < b { a } else { b }
-}
-
 // The greater of two questions.
 pub fn greater(a: u8, b: u8) -> u8
     ensures { λ r. ⌜ (a ≤ r) × (b ≤ r) × (b ≤ a → r ≡ a) × (a ≤ b → r ≡ b) ⌝ }
 {
     if a < b { b } else { a }
-}
-
-// The question before which those from the least on are asked first: 10 is left out where it passes.
-pub fn before_ten(least: u8) -> u8
-    ensures { λ r. ⌜ (7 < least → r ≡ 10) × (least ≤ 7 → r ≡ 11) ⌝ }
-{
-    if 7 < least { 10 } else { 11 }
 }
 
 // The least question from 7 on that may fail in some part, by one pass over the nodes of each; 15 where none does.

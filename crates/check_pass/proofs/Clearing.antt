@@ -1,7 +1,6 @@
 -- A part that passes the questions, from what each of them shows.
 use mathlib.Core.Path.{_≡_}
 use mathlib.Core.List.{List}
-use mathlib.Core.Logic.{inl, inr}
 use Prim.Native.Nat.{ℕ, _*_, _-_, _≤_, _<_}
 use native.Mathlib.Omega.{arith}
 use lib.ListN.{length, getD}
@@ -17,15 +16,15 @@ use Rattle.check_pass.specs.Judged.{PartFacts}
 use Rattle.check_pass.specs.Passed.{Passed, ClearBelow}
 
 module _ (s : List ℕ) (f : ℕ) (t : List ℕ) (n : ℕ) where
-  pub part-known : {decls : List ℕ} → Laid s → f < functions s → 12 * n ≤ length t → Surveyed s f t n decls → PartFacts s f t n decls
+  pub part-known : {decls : List ℕ} {a : ℕ} → Laid s → f < functions s → 12 * n ≤ length t → Surveyed s f t n decls a → PartFacts s f t n decls
   part-known g l h k =
       let seven = all-pass (nodeOk s f t) n (k .seven) in
       record { laid = g; function = l; inside = h; named = named s f t n g l seven; arguments = arguments s f t n g l seven; calls = calls s f t n g l seven; told = k .told }
 
-  pub clear : {begun : Set} {decls : List ℕ} {r : ℕ} → begun ≡ below (paramsOf s f) → Surveyed s f t n decls → Passed s f t n begun r → r ≤ 15 → ClearBelow s f t n r
+  -- what passes up to r where question 10 was asked, or up to 10
+  pub clear : {begun : Set} {decls : List ℕ} {a p r : ℕ} → begun ≡ below (paramsOf s f) → Surveyed s f t n decls a → Passed s f t n begun p → r ≤ p → (10 < r → 10 < a) → r ≤ 15 → ClearBelow s f t n r
   unfolding answers
-  clear {begun} {decls} {r} b k p top q low (inl high) =
-      seven-to-fourteen (λ m. m < r → getD (answers s f t n) (m - 7) Nothing ≡ Nothing) (λ h. k .seven) (λ h. pass-all (sizeOk t n) n (p .sized h)) (λ h. none-fails (misplaced t n) n (p .placed h))
-      (λ h. k .ten) (λ h. none-fails (outside s f t n) n (p .scoped h)) (λ h. none-fails (mistyped s f t n) n (p .typed h)) (λ h. rw (← b) (p .reading h)) (λ h. none-unless _ 0 (p .returning h))
+  clear {begun} {decls} {a} {p} {r} b k h u v top q low high =
+      seven-to-fourteen (λ m. m < r → getD (answers s f t n) (m - 7) Nothing ≡ Nothing) (λ l. k .seven) (λ l. pass-all (sizeOk t n) n (h .sized (omega arith))) (λ l. none-fails (misplaced t n) n (h .placed (omega arith)))
+      (λ l. k .ten (v l)) (λ l. none-fails (outside s f t n) n (h .scoped (omega arith))) (λ l. none-fails (mistyped s f t n) n (h .typed (omega arith))) (λ l. rw (← b) (h .reading (omega arith))) (λ l. none-unless _ 0 (h .returning (omega arith)))
       q low (omega arith) high
-  clear {begun} {decls} {r} b k p top q low (inr high) = rw (high .0) (k .ten)

@@ -17,6 +17,8 @@ use Rattle.spec_language.specs.Statements.{statementAt}
 use Rattle.spec_language.specs.Types.{typeAt, wantAt, agree}
 use Rattle.spec_language.specs.Nodes.{sizeOk, wrongChild, some, misplaced, mistyped}
 use Rattle.check_effects.specs.Effects.{Means}
+use Rattle.check_rest.specs.Sound.{Sound, SoundBefore}
+use Rattle.check_rest.proofs.Sounds.{sound-next}
 use Rattle.check_effects.proofs.EffectParts.{empty-member}
 use Rattle.check_pass.specs.Judged.{Kids, Judged, Filled}
 use Rattle.check_pass.specs.Passed.{Passed}
@@ -70,42 +72,61 @@ module _ (s : List ℕ) (f : ℕ) (t : List ℕ) (n : ℕ) where
   agree-all i [] k = refl
   agree-all i (c ∷ cs) k = rw (k .0 .type, agree-all i cs (k .1))
 
-  pub none-below : (begun : Set) → Passed s f t n begun 8
-  none-below begun =
+  -- a node before the last passes
+  pub judged-sound : {d : Set} {i code r w : ℕ} → i < n → Judged s f t n d i code r w → (1 + i ≡ n → (sizeAt t i ≡ n) × (3 ≤ code)) → Sound s f t n i 12
+  unfolding sizeOk
+  judged-sound {d} {i} {code} {r} {w} l j last =
       record {
-        sized = λ h. absurd (omega arith);
-        placed = λ h. absurd (omega arith);
-        scoped = λ h. absurd (omega arith);
-        typed = λ h. absurd (omega arith);
-        reading = λ h. absurd (omega arith);
-        returning = λ h. absurd (omega arith);
+        sized =
+            λ h. rw (eq-eqb (sizeAt t i) _ (j .size), le-leb _ i (j .inside))
+            (by (eqb (1 + i) n) (λ b. rw (b, eq-eqb (sizeAt t i) n (last (eqb-true (1 + i) n b) .0))) (λ b. rw b));
+        body = λ h e. rw (j .sort, le-ltb code 3 (last e .1));
+        placed = λ h k m. wrong-none i k (children t i) (j .kids);
+        scoped = λ h. j .scoped;
+      }
+
+  -- so do the nodes that the pass has left behind
+  pub filled-sound : {d : Set} {codes reads sets : List ℕ} {i₀ i : ℕ} → i < n → i ≤ i₀ → Filled s f t n d i₀ codes reads sets → SoundBefore s f t n i 12
+  filled-sound h l g k m = judged-sound (omega arith) (g .at k (omega arith)) (λ e. absurd (omega arith))
+
+  -- what nodes that pass questions up to r show of their part
+  pub sound-passed : {begun : Set} {r : ℕ} → SoundBefore s f t n n r → r ≤ 12 → Passed s f t n begun r
+  unfolding misplaced
+  sound-passed {begun} {r} h l =
+      record {
+        sized = λ k i m. h i m .sized k;
+        placed =
+            λ k i m. rw (some-none (λ q. wrongChild t (kindAt t q) (children t q) i) n (λ q b. h q b .placed k i m)) (by (eqb (1 + i) n)
+            (λ b. rw (b, h i m .body k (eqb-true (1 + i) n b)))
+            (λ b. rw b));
+        scoped = λ k i m. h i m .scoped k;
+        typed = λ k. absurd (omega arith);
+        reading = λ k. absurd (omega arith);
+        returning = λ k. absurd (omega arith);
       }
 
   pub all-below : {d : Set} {codes reads sets : List ℕ} {i₀ last size code r w q : ℕ} (late : ℕ) (begun : Set) (e : Bool) → 1 ≤ n → n ≤ i₀ → Filled s f t n d i₀ codes reads sets → last ≡ n - 1
       → (last < i₀ → Judged s f t n d last code r w) → size ≡ sizeAt t last → has late ≡ less (has r) begun → (e ≡ true → has late ≡ none)
-      → (8 < q → (eqb size n && leb 3 code) ≡ true) × (13 < q → e ≡ true) × (14 < q → eqb code 4 ≡ true) × (8 ≤ q) × (q ≤ 15) → Passed s f t n begun q
-  unfolding sizeOk misplaced mistyped less
-  all-below {d} {codes} {reads} {sets} {i₀} {last} {size} {code} {r} {w} {q} late begun e one all g₀ p jb x y v z =
-      let g : (k : ℕ) → k < n → Judged s f t n d k (getD codes k 0) (getD reads k 0) (getD sets k 0) = λ k l. g₀ .at k (omega arith) in
-      let full : 8 < q → size ≡ n = λ h. eqb-true size n (and-left (eqb size n) (leb 3 code) (z .0 h)) in
-      let statement : 8 < q → 3 ≤ code = λ h. leb-true 3 code (and-right (eqb size n) (leb 3 code) (z .0 h)) in
+      → (eqb size n && leb 3 code) ≡ true → (13 < q → e ≡ true) × (14 < q → eqb code 4 ≡ true) × (13 ≤ q) × (q ≤ 15) → Passed s f t n begun q
+  unfolding mistyped less
+  all-below {d} {codes} {reads} {sets} {i₀} {last} {size} {code} {r} {w} {q} late begun e one all g₀ p jb x y v whole z =
+      let full : size ≡ n = eqb-true size n (and-left (eqb size n) (leb 3 code) whole) in
+      let statement : 3 ≤ code = leb-true 3 code (and-right (eqb size n) (leb 3 code) whole) in
       let j = jb (omega arith) in
       let m : Means (statementAt t (n - 1)) d code r w = rw p at (j .means) in
+      let own : Sound s f t n last 12 = judged-sound (omega arith) j (λ h. (sym x ∙ full, statement)) in
+      let end : last + 1 ≡ n = omega arith in
+      let others : SoundBefore s f t n last 12 = filled-sound (omega arith) (omega arith) g₀ in
+      let more : SoundBefore s f t n (last + 1) 12 = sound-next s f t n last (omega arith) (omega arith) others own in
+      let sound : SoundBefore s f t n n 12 = rw end at more in
+      let before : Passed s f t n begun 12 = sound-passed sound (omega arith) in
       record {
-        sized =
-            λ h i l. let k = g i l in
-            rw (eq-eqb (sizeAt t i) _ (k .size), le-leb _ i (k .inside)) (by (eqb (1 + i) n)
-            (λ b. let w : i ≡ last = omega (arith, eqb-true (1 + i) n b) in rw (b, w, eq-eqb (sizeAt t last) n (sym x ∙ full h)))
-            (λ b. rw b));
-        placed =
-            λ h i l. let none-wrong = some-none (λ k. wrongChild t (kindAt t k) (children t k) i) n (λ k h. wrong-none k i (children t k) (g k h .kids)) in
-            rw none-wrong (by (eqb (1 + i) n)
-            (λ b. let w : i ≡ last = omega (arith, eqb-true (1 + i) n b) in rw (b, w, j .sort, le-ltb code 3 (statement (omega arith))))
-            (λ b. rw b));
-        scoped = λ h i l. g i l .scoped;
-        typed = λ h i l. rw (agree-all i (children t i) (g i l .kids));
-        reading = λ h. m .reading begun (λ k l. by (begun k) (λ b. b) (λ b. empty-member k (rw (← v (z .1 h), y) (and-both (has r k) _ l (rw b)))));
-        returning = λ h. m .returning (eqb-true code 4 (z .2 h));
+        sized = λ h. before .sized (omega arith);
+        placed = λ h. before .placed (omega arith);
+        scoped = λ h. before .scoped (omega arith);
+        typed = λ h i l. rw (agree-all i (children t i) (g₀ .at i (omega arith) .kids));
+        reading = λ h. m .reading begun (λ k l. by (begun k) (λ b. b) (λ b. empty-member k (rw (← v (z .0 h), y) (and-both (has r k) _ l (rw b)))));
+        returning = λ h. m .returning (eqb-true code 4 (z .1 h));
       }
 
 pub kept-length : (xs : List ℕ) (i v : ℕ) {ys : List ℕ} {m : ℕ} → ys ≡ set xs i v → length xs ≡ m → length ys ≡ m

@@ -20,7 +20,7 @@ module _ (s : List ℕ) (f : ℕ) (t : List ℕ) where
   pub decl-narrow : (i : ℕ) → Laid s → f < functions s → nodeOk s f t i ≡ true → kindAt t i ≡ 9 → bAt t i < 64
   decl-narrow i g l e k = omega (arith, decl-fields s f (aAt t i) (bAt t i) (rw k at (node-fields s f t i e)) .2, g .vars f l)
 
-  pub surveyed : (n i : ℕ) (table : List ℕ) (found : Found) → n ≤ i → i ≤ n → Below (λ k. not (nodeOk s f t k)) i → Noted t i table
-      → found ≡ firstUndeclared (lowest (undeclared s f t n) (varsOf s f)) (varsOf s f) → found ≡ Nothing → Surveyed s f t n table
-  surveyed n i table found a b seven told e z =
-      record { seven = sym (first-none _ n i a seven); ten = sym e ∙ z; told = rw (le-antisymm a b) (told .1) }
+  pub surveyed : (n i r : ℕ) (table : List ℕ) (found : Found) → n ≤ i → i ≤ n → Below (λ k. not (nodeOk s f t k)) i → Noted t i table
+      → found ≡ firstUndeclared (lowest (undeclared s f t n) (varsOf s f)) (varsOf s f) → (10 < r → found ≡ Nothing) → Surveyed s f t n table r
+  surveyed n i r table found a b seven told e z =
+      record { seven = sym (first-none _ n i a seven); ten = λ h. sym e ∙ z h; told = rw (le-antisymm a b) (told .1) }

@@ -2,7 +2,6 @@
 use mathlib.Core.Path.{_≡_}
 use mathlib.Core.Bool.{true, false}
 use mathlib.Core.List.{List}
-use mathlib.Core.Logic.{_⊎_}
 use Prim.Native.Nat.{ℕ, _-_, _≤_, _<_}
 use lib.ListN.{getD}
 use Rattle.varset.specs.Sets.{Set}
@@ -20,10 +19,6 @@ pub record Passed (s : List ℕ) (f : ℕ) (t : List ℕ) (n : ℕ) (begun : Set
   pub reading : 13 < r → lacks (statementAt t (n - 1)) begun ≡ Nothing
   pub returning : 14 < r → returns (statementAt t (n - 1)) ≡ true
 
--- question q is one of those that r speaks of: the ones before it, and 10, which the survey asks, where r is above 7
-abbrev pub Before : ℕ → ℕ → Type 0
-Before r q = (q < r) ⊎ ((q ≡ 10) × (7 < r))
-
--- those questions find nothing in the part of function f, of n nodes
+-- the questions from 7 to before r find nothing in the part of function f, of n nodes
 abbrev pub ClearBelow : List ℕ → ℕ → List ℕ → ℕ → ℕ → Type 0
-ClearBelow s f t n r = (q : ℕ) → 7 ≤ q → Before r q → getD (answers s f t n) (q - 7) Nothing ≡ Nothing
+ClearBelow s f t n r = (q : ℕ) → 7 ≤ q → q < r → getD (answers s f t n) (q - 7) Nothing ≡ Nothing

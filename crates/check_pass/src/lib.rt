@@ -129,13 +129,10 @@ fn keep(codes: &mut [u8], reads: &mut [u64], sets: &mut [u64], i: usize, e: Effe
     sets[i] = e.sets.0;
 }
 
-// The least question that may fail in a part: 8 unless it is whole, 13 unless its reads are held, 14 unless it returns, else 15.
-fn least(whole: bool, held: bool, returning: bool) -> u8
-    ensures { λ r. ⌜ (8 < r → whole ≡ true) × (13 < r → held ≡ true) × (14 < r → returning ≡ true) × (8 ≤ r) × (r ≤ 15) ⌝ }
+// The least question that may fail in a part that passes those before 13: 13 unless its reads are held, 14 unless it returns, else 15.
+fn least(held: bool, returning: bool) -> u8
+    ensures { λ r. ⌜ (13 < r → held ≡ true) × (14 < r → returning ≡ true) × (13 ≤ r) × (r ≤ 15) ⌝ }
 {
-    if !whole {
-        return 8;
-    }
     if !held {
         return 13;
     }
@@ -168,17 +165,19 @@ fn floor(
         seen = check_effects::with_decl(part, i, seen);
         let e = node_at(file, f, part, n, decls, codes, reads, sets, seen, i);
         if e.code == TYPE_UNSET {
-            return 8;
+            return check_rest::floor_from(file, f, part, n, decls, i);
         }
         keep(codes, reads, sets, i, e);
         i += 1;
     }
     let last = n - 1;
     let body = nodes::effect_of(codes, reads, sets, last);
+    if !((size_at(part, last) == n) & (3 <= body.code)) {
+        return check_rest::floor_from(file, f, part, n, decls, last);
+    }
     let late = body.reads;
-    let whole = (size_at(part, last) == n) & (3 <= body.code);
     let held = late.minus(begun).is_empty();
-    least(whole, held, body.code == 4)
+    least(held, body.code == 4)
 }
 
 // The least question from 7 to 14 that may fail in the part of function f, of n nodes; 15 where none may.
@@ -198,8 +197,12 @@ pub fn part_floor(
     ensures room { λ r. ⌜ (length (now (codes .exit)) ≡ length (now (codes .entry))) × (length (now (reads .exit)) ≡ length (now (reads .entry))) × (length (now (sets .exit)) ≡ length (now (sets .entry))) ⌝ }
 {
     let mut decls = [0usize; VARIABLE_ENTRIES];
-    if !crate::survey::survey_part(file, f, part, n, &mut decls) {
+    let asked = crate::survey::survey_part(file, f, part, n, &mut decls);
+    if asked < 8 {
         return 7;
+    }
+    if asked < 11 {
+        return check_rest::lower(check_rest::floor_from(file, f, part, n, &decls, 0), 10);
     }
     let begun = VarSet::below(wide(params_of(file, f)));
     floor(file, f, part, n, &decls, begun, codes, reads, sets)

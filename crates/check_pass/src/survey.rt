@@ -23,13 +23,13 @@ ghost use Rattle.check_scopes.specs.Counts.{Noted};
 ghost use Rattle.check_pass.specs.Limits.{aLimits, bLimits};
 ghost use Rattle.check_pass.specs.Surveyed.{Surveyed};
 
-// Whether a search found nothing.
-fn is_nothing(found: Found) -> bool
-    ensures { λ r. ⌜ (r ≡ true → found ≡ Found.Nothing) ⌝ }
+// The least question that may fail where question 10 found this and question 7 nothing; 15 where it found nothing either.
+fn past_seven(found: Found) -> u8
+    ensures { λ r. ⌜ (10 < r → found ≡ Found.Nothing) × (8 ≤ r) × (r ≤ 15) ⌝ }
 {
     match found {
-        Found::At(place, item) => false,
-        Found::Nothing => true,
+        Found::At(place, item) => 10,
+        Found::Nothing => 15,
     }
 }
 
@@ -132,18 +132,18 @@ fn within_limits(
     }
 }
 
-// Whether questions 7 and 10 find nothing in the part of function f, of n nodes; the table then has its decls.
+// The lower of questions 7 and 10 that finds something in the part of function f, of n nodes, 15 where none does; past 7 the table has its decls.
 pub fn survey_part(
     file: &[u8],
     f: usize,
     part: &[u8],
     n: usize,
     table: &mut [usize; VARIABLE_ENTRIES],
-) -> bool
+) -> u8
     requires laid { ⌜ Laid (now file) × (f < functions (now file)) ⌝ }
     requires inside { ⌜ 12 * n ≤ length (now part) ⌝ }
     requires empty { ⌜ Noted (now part) 0 (now table) ⌝ }
-    ensures { λ r. ⌜ (r ≡ true → Surveyed (now (file .entry)) f (now (part .entry)) n (now (table .exit))) ⌝ }
+    ensures { λ r. ⌜ (7 < r → Surveyed (now (file .entry)) f (now (part .entry)) n (now (table .exit)) r) ⌝ }
 {
     let mut d = Declared {
         seen: VarSet::empty(),
@@ -155,12 +155,12 @@ pub fn survey_part(
     while i < n {
         if !within_limits(file, f, part, i, &tops, &limits) {
             if !check_shape::node_ok(file, f, part, i) {
-                return false;
+                return 7;
             }
             d = check_scopes::count_decl(part, i, d);
             check_scopes::note_decl(part, i, table);
         }
         i += 1;
     }
-    is_nothing(check_scopes::lowest_undeclared(file, f, part, n, d))
+    past_seven(check_scopes::lowest_undeclared(file, f, part, n, d))
 }

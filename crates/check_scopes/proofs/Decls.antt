@@ -156,9 +156,9 @@ unfolding outside usesVariable
 no-use s f t n i p q = rw (ne-eqb (kindAt t i) 2 p, ne-eqb (kindAt t i) 8 q)
 
 -- what a kind that uses a variable is known by
-pub use-known : (t : List ℕ) (n i kind : ℕ) → Known t n → i < n → kindAt t i ≡ kind → usesVariable kind ≡ true → (usesVariable (kindAt t i) ≡ true) × (bAt t i < 64)
+pub use-known : (t : List ℕ) (n i kind : ℕ) → Named t n → i < n → kindAt t i ≡ kind → usesVariable kind ≡ true → (usesVariable (kindAt t i) ≡ true) × (bAt t i < 64)
 unfolding namesVariable
-use-known t n i kind h l e u = (rw e u, h .variable i l (rw (e, u)))
+use-known t n i kind h l e u = (rw e u, h i l (rw (e, u)))
 
 pub decl-known : (t : List ℕ) (n i : ℕ) → Named t n → i < n → kindAt t i ≡ 9 → bAt t i < 64
 unfolding namesVariable usesVariable

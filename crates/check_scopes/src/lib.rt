@@ -158,7 +158,7 @@ pub fn strays(
 }
 
 // Whether node i of a part of n nodes uses or assigns a variable from p on outside its decl; by kind.
-fn is_outside(
+pub fn is_outside(
     file: &[u8],
     f: usize,
     part: &[u8],
@@ -168,7 +168,7 @@ fn is_outside(
 ) -> bool
     requires laid { ⌜ 12 * (1 + f) + 12 ≤ length (now file) ⌝ }
     requires inside { ⌜ (12 * n ≤ length (now part)) × (i < n) ⌝ }
-    requires known { ⌜ Known (now part) n ⌝ }
+    requires named { ⌜ Named (now part) n ⌝ }
     requires told { ⌜ Decls (now part) n (now decls) ⌝ }
     ensures { λ r. ⌜ r ≡ outside (now (file .entry)) f (now (part .entry)) n i ⌝ }
 {

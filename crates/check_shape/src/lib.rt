@@ -128,7 +128,7 @@ fn total_size(part: &[u8], m: usize, last: usize) -> usize
 }
 
 // Whether the size of node i of a part of n nodes is right.
-fn size_ok(part: &[u8], n: usize, i: usize) -> bool
+pub fn size_ok(part: &[u8], n: usize, i: usize) -> bool
     requires { ⌜ (12 * n ≤ length (now part)) × (i < n) ⌝ }
     ensures { λ r. ⌜ r ≡ sizeOk (now (part .entry)) n i ⌝ }
 {

@@ -62,7 +62,7 @@ fn lower(low: usize, c: usize, wrong: bool) -> usize
 }
 
 // The lower of `best` and the lowest child of node q that is of the wrong sort.
-fn lowest_wrong(part: &[u8], n: usize, q: usize, best: usize) -> usize
+pub fn lowest_wrong(part: &[u8], n: usize, q: usize, best: usize) -> usize
     requires { ⌜ (12 * n ≤ length (now part)) × (q < n) × (best ≤ n) ⌝ }
     ensures { λ r. ⌜ r ≡ min best (lowest (wrongChild (now (part .entry)) (kindAt (now (part .entry)) q) (children (now (part .entry)) q)) n) ⌝ }
 {

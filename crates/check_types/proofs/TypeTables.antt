@@ -65,7 +65,7 @@ laid-at s f g h l e =
 -- a variable that node i of a kind that uses one names
 pub var-known : (t : List ℕ) (n i x kind : ℕ) → (12 * n ≤ length t) → i < n → Known t n → kindAt t i ≡ kind → usesVariable kind ≡ true → x ≡ bAt t i
     → (12 * n ≤ length t) × (1 ≤ n) × (x < 64)
-var-known t n i x kind h l k e u a = (h, omega arith, rw a (use-known t n i kind k l e u .1))
+var-known t n i x kind h l k e u a = (h, omega arith, rw a (use-known t n i kind (k .variable) l e u .1))
 
 -- the number of an argument, counted down
 pub argument-few : (t : List ℕ) (n i j : ℕ) → Known t n → i < n → j ≤ arityAt t i → 0 < j → kindAt t i ≡ 5 → j - 1 < 8

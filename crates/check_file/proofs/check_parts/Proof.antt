@@ -1,4 +1,4 @@
-use Rattle.check_file.proofs.Rounds.{none-found, answers-all, greater-passed, past-ten, ten-or-eleven}
+use Rattle.check_file.proofs.Rounds.{none-found, answers-all, greater-passed}
 use Rattle.check_file.specs.Answers.{says}
 use lib.Dec.{lit≤}
 use native.Mathlib.Omega.{arith}
@@ -14,14 +14,11 @@ returns : tie.Need-returns
 unfolding says
 returns c = (sym (none-found _ _ (c .if1 .taken) (c .before .file-floor .ensures .0)), tt)
 
-before-ten-requires : tie.Need-before-ten-requires
-before-ten-requires c κs = search needs
-
 slice-aggregate-ask : tie.Need-slice-aggregate-ask
 slice-aggregate-ask c = search needs
 
 ask-requires : tie.Need-ask-requires
-ask-requires c κs = ((c .before .before .before .before .before .pre .0, c .before .before .before .before .before .pre .1, c .before .before .before .file-floor .ensures .1, omega (arith, ten-or-eleven (c .before .before-ten .ensures .0) (c .before .before-ten .ensures .1))), (c .before .before .before .file-floor .ensures .0, λ z. absurd (omega (arith, ten-or-eleven (c .before .before-ten .ensures .0) (c .before .before-ten .ensures .1)))))
+ask-requires c κs = ((c .before .before .before .before .pre .0, c .before .before .before .before .pre .1, c .before .before .file-floor .ensures .1, lit≤ tt), (c .before .before .file-floor .ensures .0, λ z. absurd (omega arith)))
 
 enum-known-refusal : tie.Need-enum-known-refusal
 enum-known-refusal c = search needs
@@ -35,29 +32,11 @@ enum-told c = search needs
 greater-requires : tie.Need-greater-requires
 greater-requires c κs = search needs
 
-slice-aggregate-ask-2 : tie.Need-slice-aggregate-ask-2
-slice-aggregate-ask-2 c = search needs
-
-ask-requires-2 : tie.Need-ask-requires-2
-ask-requires-2 c κs = ((c .before .before .before .before .before .before .before .before .before .before .before .pre .0, c .before .before .before .before .before .before .before .before .before .before .before .pre .1, omega (arith, c .before .greater .ensures .1), lit≤ tt), (greater-passed _ (c .before .before .before .before .before .before .before .before .before .file-floor .ensures .0) (past-ten _ (rw (c .before .before .enum-told .given .1) at (c .before .before .before .before .before .ask .ensures .0)) (c .before .before .before .before .before .before .before .before .before .file-floor .ensures .3) (c .before .before .before .before .before .before .before .before-ten .ensures .0) (c .before .before .before .before .before .before .before .before-ten .ensures .1)) (c .before .greater .ensures .2) (c .before .greater .ensures .3), λ z. absurd (omega arith)))
-
-enum-known-refusal-2 : tie.Need-enum-known-refusal-2
-enum-known-refusal-2 c = search needs
+check-flows-requires : tie.Need-check-flows-requires
+check-flows-requires c κs = (c .before .before .before .before .before .before .before .before .before .pre .0, c .before .before .before .before .before .before .before .before .before .pre .1, c .greater .ensures .1, greater-passed _ (c .before .before .before .before .before .before .before .file-floor .ensures .0) (rw (c .before .enum-told .given .1) at (c .before .before .before .before .ask .ensures .0)) (c .greater .ensures .2) (c .greater .ensures .3))
 
 returns-3 : tie.Need-returns-3
-returns-3 c = (rw (c .before .refusal2 .given .1) at (c .before .before .before .before .ask2 .ensures .0), rw (c .before .refusal2 .given .1) at (c .before .before .before .before .ask2 .ensures .1))
-
-enum-told-2 : tie.Need-enum-told-2
-enum-told-2 c = search needs
-
-greater-requires-2 : tie.Need-greater-requires-2
-greater-requires-2 c κs = search needs
-
-check-flows-requires : tie.Need-check-flows-requires
-check-flows-requires c κs = (c .before .before .before .before .before .before .before .before .before .before .before .before .before .before .before .before .pre .0, c .before .before .before .before .before .before .before .before .before .before .before .before .before .before .before .before .pre .1, c .greater2 .ensures .1, greater-passed _ (c .before .before .before .before .before .before .before .before .before .before .before .before .before .before .file-floor .ensures .0) (rw (c .before .enum-told2 .given .1) at (c .before .before .before .before .ask2 .ensures .0)) (c .greater2 .ensures .2) (c .greater2 .ensures .3))
-
-returns-4 : tie.Need-returns-4
-returns-4 c = (answers-all _ _ (c .check-flows .ensures .0), c .check-flows .ensures .1)
+returns-3 c = (answers-all _ _ (c .check-flows .ensures .0), c .check-flows .ensures .1)
 
 pub check-parts-spec : {M : Type 1} → statement M
 check-parts-spec =
@@ -65,18 +44,11 @@ check-parts-spec =
     (tie.spec
     file-floor-requires
     returns
-    before-ten-requires
     slice-aggregate-ask
     ask-requires
     enum-known-refusal
     returns-2
     enum-told
     greater-requires
-    slice-aggregate-ask-2
-    ask-requires-2
-    enum-known-refusal-2
-    returns-3
-    enum-told-2
-    greater-requires-2
     check-flows-requires
-    returns-4)
+    returns-3)

@@ -4,8 +4,9 @@ use Rattle.varset.specs.Sets.{has}
 use mathlib.Core.Path.{_≡_, refl}
 use lib.ListN.{length}
 use Prim.Native.Nat.{_-_, _≤_}
-use Rattle.check_pass.proofs.Filling.{filled-none, filled-more, filled-next, none-below, all-below, kept-length}
+use Rattle.check_pass.proofs.Filling.{filled-none, filled-more, filled-next, filled-sound, sound-passed, all-below, kept-length}
 use Rattle.check_pass.specs.Judged.{Filled}
+use borrow.Author.Tests.{not-false}
 use borrow.Author.Needs.{needs}
 use native.Mathlib.Omega.{arith}
 use Rattle.check_pass.proofs.floor.Statement.{statement}
@@ -30,17 +31,20 @@ with-decl-requires c κs = (omega (arith, c .before .before .before .before .bef
 node-at-requires : tie.Need-node-at-requires Inv-loop μ-loop
 node-at-requires c κs = record { part = c .before .before .before .before .before .before .before .before .before .before .before .before .pre .0 .0; below = c .before .before .before .before .loop-test .taken; codeRoom = omega (arith, c .before .before .before .before .before .loop .inv .1 .0, c .before .before .before .before .before .before .before .before .before .before .before .before .pre .1 .0); readRoom = omega (arith, c .before .before .before .before .before .loop .inv .1 .1, c .before .before .before .before .before .before .before .before .before .before .before .before .pre .1 .1); setRoom = omega (arith, c .before .before .before .before .before .loop .inv .1 .2, c .before .before .before .before .before .before .before .before .before .before .before .before .pre .1 .2); filled = filled-more _ _ _ _ _ _ _ _ _ _ (c .before .before .before .with-decl .ensures .0) (c .before .before .before .before .before .loop .inv .2); own = c .before .before .before .with-decl .ensures .1 }
 
+floor-from-requires : tie.Need-floor-from-requires Inv-loop μ-loop
+floor-from-requires c κs = ((omega (arith, c .before .before .before .before .before .before .before .before .before .before .before .before .before .before .before .pre .0 .0 .laid .heads, c .before .before .before .before .before .before .before .before .before .before .before .before .before .before .before .pre .0 .0 .function), c .before .before .before .before .before .before .before .before .before .before .before .before .before .before .before .pre .0 .0 .inside, omega (arith, c .before .before .before .before .before .before .before .loop-test .taken)), ((c .before .before .before .before .before .before .before .before .before .before .before .before .before .before .before .pre .0 .0 .named, c .before .before .before .before .before .before .before .before .before .before .before .before .before .before .before .pre .0 .0 .told), filled-sound _ _ _ _ (c .before .before .before .before .before .before .before .loop-test .taken) (omega arith) (c .before .before .before .before .before .before .before .before .loop .inv .2)))
+
 same-length : tie.Need-same-length Inv-loop μ-loop
-same-length c = c .before .before .before .before .before .before .before .before .loop .inv .1 .0
+same-length c = c .before .before .before .before .before .before .before .before .before .loop .inv .1 .0
 
 same-length-2 : tie.Need-same-length-2 Inv-loop μ-loop
-same-length-2 c = c .before .before .before .before .before .before .before .before .loop .inv .1 .1
+same-length-2 c = c .before .before .before .before .before .before .before .before .before .loop .inv .1 .1
 
 same-length-3 : tie.Need-same-length-3 Inv-loop μ-loop
-same-length-3 c = c .before .before .before .before .before .before .before .before .loop .inv .1 .2
+same-length-3 c = c .before .before .before .before .before .before .before .before .before .loop .inv .1 .2
 
 returns : tie.Need-returns Inv-loop μ-loop
-returns c = ((none-below _ _ _ _ _, omega arith, omega arith), c .before .before .before .before .before .before .before .before .loop .inv .1)
+returns c = ((sound-passed _ _ _ _ (c .floor-from .ensures .0) (c .floor-from .ensures .2), c .floor-from .ensures .1, omega (arith, c .floor-from .ensures .2)), c .before .before .before .before .before .before .before .before .before .loop .inv .1)
 
 keep-requires : tie.Need-keep-requires Inv-loop μ-loop
 keep-requires c κs = (omega (arith, c .before .before .before .before .before .before .before .before .before .before .loop-test .taken, c .before .before .before .before .before .before .before .before .before .before .before .loop .inv .1 .0, c .before .before .before .before .before .before .before .before .before .before .before .before .before .before .before .before .before .before .pre .1 .0), omega (arith, c .before .before .before .before .before .before .before .before .before .before .loop-test .taken, c .before .before .before .before .before .before .before .before .before .before .before .loop .inv .1 .1, c .before .before .before .before .before .before .before .before .before .before .before .before .before .before .before .before .before .before .pre .1 .1), omega (arith, c .before .before .before .before .before .before .before .before .before .before .loop-test .taken, c .before .before .before .before .before .before .before .before .before .before .before .loop .inv .1 .2, c .before .before .before .before .before .before .before .before .before .before .before .before .before .before .before .before .before .before .pre .1 .2))
@@ -61,7 +65,22 @@ effect-of-requires : tie.Need-effect-of-requires Inv-loop μ-loop
 effect-of-requires c κs = (omega (arith, c .before .before .before .before .before .before .before .before .before .before .before .pre .0 .1, c .before .before .before .before .loop .inv .1 .0, c .before .before .before .before .before .before .before .before .before .before .before .pre .1 .0), omega (arith, c .before .before .before .before .before .before .before .before .before .before .before .pre .0 .1, c .before .before .before .before .loop .inv .1 .1, c .before .before .before .before .before .before .before .before .before .before .before .pre .1 .1), omega (arith, c .before .before .before .before .before .before .before .before .before .before .before .pre .0 .1, c .before .before .before .before .loop .inv .1 .2, c .before .before .before .before .before .before .before .before .before .before .before .pre .1 .2))
 
 size-at-requires : tie.Need-size-at-requires Inv-loop μ-loop
-size-at-requires c κs = omega (arith, c .before .before .before .before .before .before .before .before .before .before .before .before .before .pre .0 .0 .inside, c .before .before .before .before .before .before .before .before .before .before .before .before .before .pre .0 .1)
+size-at-requires c κs = omega (arith, c .before .before .before .before .before .before .before .before .before .before .before .before .pre .0 .0 .inside, c .before .before .before .before .before .before .before .before .before .before .before .before .pre .0 .1)
+
+floor-from-requires-2 : tie.Need-floor-from-requires-2 Inv-loop μ-loop
+floor-from-requires-2 c κs = ((omega (arith, c .before .before .before .before .before .before .before .before .before .before .before .before .before .before .before .pre .0 .0 .laid .heads, c .before .before .before .before .before .before .before .before .before .before .before .before .before .before .before .pre .0 .0 .function), c .before .before .before .before .before .before .before .before .before .before .before .before .before .before .before .pre .0 .0 .inside, omega (arith, c .before .before .before .before .before .before .before .before .before .before .before .before .before .before .before .pre .0 .1)), ((c .before .before .before .before .before .before .before .before .before .before .before .before .before .before .before .pre .0 .0 .named, c .before .before .before .before .before .before .before .before .before .before .before .before .before .before .before .pre .0 .0 .told), filled-sound _ _ _ _ (omega (arith, c .before .before .before .before .before .before .before .before .before .before .before .before .before .before .before .pre .0 .1)) (omega (arith, c .before .before .before .before .before .before .before .before .before .before .before .before .before .before .before .pre .0 .1, c .before .before .before .before .before .before .before .loop-test .left)) (c .before .before .before .before .before .before .before .before .loop .inv .2)))
+
+same-length-4 : tie.Need-same-length-4 Inv-loop μ-loop
+same-length-4 c = c .before .before .before .before .before .before .before .before .before .loop .inv .1 .0
+
+same-length-5 : tie.Need-same-length-5 Inv-loop μ-loop
+same-length-5 c = c .before .before .before .before .before .before .before .before .before .loop .inv .1 .1
+
+same-length-6 : tie.Need-same-length-6 Inv-loop μ-loop
+same-length-6 c = c .before .before .before .before .before .before .before .before .before .loop .inv .1 .2
+
+returns-2 : tie.Need-returns-2 Inv-loop μ-loop
+returns-2 c = ((sound-passed _ _ _ _ (c .floor-from2 .ensures .0) (c .floor-from2 .ensures .2), c .floor-from2 .ensures .1, omega (arith, c .floor-from2 .ensures .2)), c .before .before .before .before .before .before .before .before .before .loop .inv .1)
 
 minus-requires : tie.Need-minus-requires Inv-loop μ-loop
 minus-requires c κs = search needs
@@ -72,17 +91,17 @@ is-empty-requires c κs = search needs
 least-requires : tie.Need-least-requires Inv-loop μ-loop
 least-requires c κs = search needs
 
-same-length-4 : tie.Need-same-length-4 Inv-loop μ-loop
-same-length-4 c = c .before .before .before .before .before .before .before .before .before .before .before .before .loop .inv .1 .0
+same-length-7 : tie.Need-same-length-7 Inv-loop μ-loop
+same-length-7 c = c .before .before .before .before .before .before .before .before .before .before .before .before .before .loop .inv .1 .0
 
-same-length-5 : tie.Need-same-length-5 Inv-loop μ-loop
-same-length-5 c = c .before .before .before .before .before .before .before .before .before .before .before .before .loop .inv .1 .1
+same-length-8 : tie.Need-same-length-8 Inv-loop μ-loop
+same-length-8 c = c .before .before .before .before .before .before .before .before .before .before .before .before .before .loop .inv .1 .1
 
-same-length-6 : tie.Need-same-length-6 Inv-loop μ-loop
-same-length-6 c = c .before .before .before .before .before .before .before .before .before .before .before .before .loop .inv .1 .2
+same-length-9 : tie.Need-same-length-9 Inv-loop μ-loop
+same-length-9 c = c .before .before .before .before .before .before .before .before .before .before .before .before .before .loop .inv .1 .2
 
-returns-2 : tie.Need-returns-2 Inv-loop μ-loop
-returns-2 c = ((all-below _ _ _ _ _ _ _ (c .before .before .before .before .before .before .before .before .before .before .before .before .before .before .before .before .before .before .before .pre .0 .1) (omega (arith, c .before .before .before .before .before .before .before .before .before .before .before .loop-test .left)) (c .before .before .before .before .before .before .before .before .before .before .before .before .loop .inv .2) refl (c .before .before .before .before .before .before .before .effect-of .ensures _ _ _ _ _ _ (c .before .before .before .before .before .before .before .before .before .before .before .before .loop .inv .2)) (c .before .before .before .before .before .size-at .ensures .0) (c .before .before .before .minus .ensures) (c .before .before .is-empty .ensures .0) (c .least .ensures), c .least .ensures .3, c .least .ensures .4), c .before .before .before .before .before .before .before .before .before .before .before .before .loop .inv .1)
+returns-3 : tie.Need-returns-3 Inv-loop μ-loop
+returns-3 c = ((all-below _ _ _ _ _ _ _ (c .before .before .before .before .before .before .before .before .before .before .before .before .before .before .before .before .before .before .before .before .pre .0 .1) (omega (arith, c .before .before .before .before .before .before .before .before .before .before .before .before .loop-test .left)) (c .before .before .before .before .before .before .before .before .before .before .before .before .before .loop .inv .2) refl (c .before .before .before .before .before .before .before .before .effect-of .ensures _ _ _ _ _ _ (c .before .before .before .before .before .before .before .before .before .before .before .before .before .loop .inv .2)) (c .before .before .before .before .before .before .before .size-at .ensures .0) (c .before .before .before .minus .ensures) (c .before .before .is-empty .ensures .0) (not-false _ (c .before .before .before .before .before .if2 .left)) (c .least .ensures), omega (arith, c .least .ensures .2), c .least .ensures .3), c .before .before .before .before .before .before .before .before .before .before .before .before .before .loop .inv .1)
 
 pub floor-spec : {M : Type 1} → statement M
 floor-spec =
@@ -94,6 +113,7 @@ floor-spec =
     loop-holds
     with-decl-requires
     node-at-requires
+    floor-from-requires
     same-length
     same-length-2
     same-length-3
@@ -105,10 +125,15 @@ floor-spec =
     sub-last
     effect-of-requires
     size-at-requires
-    minus-requires
-    is-empty-requires
-    least-requires
+    floor-from-requires-2
     same-length-4
     same-length-5
     same-length-6
-    returns-2)
+    returns-2
+    minus-requires
+    is-empty-requires
+    least-requires
+    same-length-7
+    same-length-8
+    same-length-9
+    returns-3)

@@ -20,7 +20,7 @@ loop-holds : tie.Need-loop-holds Inv-loop μ-loop
 loop-holds c = (search needs, below-none _)
 
 is-outside-requires : tie.Need-is-outside-requires Inv-loop μ-loop
-is-outside-requires c κs = (search needs, (search needs, (c .before .before .before .before .before .before .pre .1 .1, c .before .before .before .decl-table .ensures)))
+is-outside-requires c κs = (search needs, (search needs, (c .before .before .before .before .before .before .pre .1 .1 .variable, c .before .before .before .decl-table .ensures)))
 
 returns : tie.Need-returns Inv-loop μ-loop
 returns c = first-at _ _ _ (search needs) (c .before .before .before .before .loop .inv .1) (sym (c .before .is-outside .ensures) ∙ c .if1 .taken)

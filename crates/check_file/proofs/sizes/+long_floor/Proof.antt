@@ -10,7 +10,7 @@ use borrow.Fn.PlainCycle.{Measures, is, falls, and}
 use Rattle.check_file.proofs.sizes.long_floor.Reads as long-floor
 use Rattle.check_file.proofs.sizes.long_floor.Kinds as long-floor-kinds
 use Rattle.check_file.proofs.sizes.+long_floor.Lts-long_floor as long-floor-lts
-use Rattle.check_file.proofs.sizes.lower.Reads as lower-reads
+use Rattle.check_rest.proofs.lower.Reads as lower-reads
 use Rattle.check_file.proofs.sizes.parts_floor.Reads as parts-floor-reads
 use Rattle.check_file.proofs.sizes.+long_floor.{statement}
 use Rattle.check_file.proofs.sizes.+long_floor.Tie.{close}
@@ -51,7 +51,7 @@ long-floor-lower-requires : (t : ℕ) → long-floor-lts.Need-lower-requires (cl
 long-floor-lower-requires t c κs = search needs
 
 long-floor-returns : (t : ℕ) → long-floor-lts.Need-returns (claims t) (long-floor-at t) long-floor.Post
-long-floor-returns t c = (fewer-passed _ (c .lower .ensures .0) (c .before .before .before .before .before .before .parts-floor .ensures .0), c .lower .ensures .2 (c .before .before .before .before .before .before .parts-floor .ensures .1) (c .before .long-floor .ensures .1), omega (arith, c .lower .ensures .0, c .before .before .before .before .before .before .parts-floor .ensures .2), λ z. c .before .before .before .before .before .before .parts-floor .ensures .3 (omega (arith, z, c .lower .ensures .0)))
+long-floor-returns t c = (fewer-passed _ (c .lower .ensures .0) (c .before .before .before .before .before .before .parts-floor .ensures .0), c .lower .ensures .2 (c .before .before .before .before .before .before .parts-floor .ensures .1) (c .before .long-floor .ensures .1), omega (arith, c .lower .ensures .0, c .before .before .before .before .before .before .parts-floor .ensures .2))
 
 long-floor-returns-2 : (t : ℕ) → long-floor-lts.Need-returns-2 (claims t) (long-floor-at t) long-floor.Post
 long-floor-returns-2 t c = c .before .before .before .before .parts-floor .ensures

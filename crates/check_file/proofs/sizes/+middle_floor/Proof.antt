@@ -9,7 +9,7 @@ use borrow.Fn.PlainCycle.{Measures, is, falls, and}
 use Rattle.check_file.proofs.sizes.middle_floor.Reads as middle-floor
 use Rattle.check_file.proofs.sizes.middle_floor.Kinds as middle-floor-kinds
 use Rattle.check_file.proofs.sizes.+middle_floor.Lts-middle_floor as middle-floor-lts
-use Rattle.check_file.proofs.sizes.lower.Reads as lower-reads
+use Rattle.check_rest.proofs.lower.Reads as lower-reads
 use Rattle.check_file.proofs.sizes.parts_floor.Reads as parts-floor-reads
 use Rattle.check_file.proofs.sizes.+middle_floor.{statement}
 use Rattle.check_file.proofs.sizes.+middle_floor.Tie.{close}
@@ -50,7 +50,7 @@ middle-floor-lower-requires : (t : ℕ) → middle-floor-lts.Need-lower-requires
 middle-floor-lower-requires t c κs = search needs
 
 middle-floor-returns : (t : ℕ) → middle-floor-lts.Need-returns (claims t) (middle-floor-at t) middle-floor.Post
-middle-floor-returns t c = (fewer-passed _ (c .lower .ensures .0) (c .before .before .before .before .before .before .parts-floor .ensures .0), c .lower .ensures .2 (c .before .before .before .before .before .before .parts-floor .ensures .1) (c .before .middle-floor .ensures .1), omega (arith, c .lower .ensures .0, c .before .before .before .before .before .before .parts-floor .ensures .2), λ z. c .before .before .before .before .before .before .parts-floor .ensures .3 (omega (arith, z, c .lower .ensures .0)))
+middle-floor-returns t c = (fewer-passed _ (c .lower .ensures .0) (c .before .before .before .before .before .before .parts-floor .ensures .0), c .lower .ensures .2 (c .before .before .before .before .before .before .parts-floor .ensures .1) (c .before .middle-floor .ensures .1), omega (arith, c .lower .ensures .0, c .before .before .before .before .before .before .parts-floor .ensures .2))
 
 middle-floor-returns-2 : (t : ℕ) → middle-floor-lts.Need-returns-2 (claims t) (middle-floor-at t) middle-floor.Post
 middle-floor-returns-2 t c = c .before .before .before .before .parts-floor .ensures

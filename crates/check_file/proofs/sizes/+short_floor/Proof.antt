@@ -9,7 +9,7 @@ use borrow.Fn.PlainCycle.{Measures, is, falls, and}
 use Rattle.check_file.proofs.sizes.short_floor.Reads as short-floor
 use Rattle.check_file.proofs.sizes.short_floor.Kinds as short-floor-kinds
 use Rattle.check_file.proofs.sizes.+short_floor.Lts-short_floor as short-floor-lts
-use Rattle.check_file.proofs.sizes.lower.Reads as lower-reads
+use Rattle.check_rest.proofs.lower.Reads as lower-reads
 use Rattle.check_file.proofs.sizes.parts_floor.Reads as parts-floor-reads
 use Rattle.check_file.proofs.sizes.+short_floor.{statement}
 use Rattle.check_file.proofs.sizes.+short_floor.Tie.{close}
@@ -50,7 +50,7 @@ short-floor-lower-requires : (t : ℕ) → short-floor-lts.Need-lower-requires (
 short-floor-lower-requires t c κs = search needs
 
 short-floor-returns : (t : ℕ) → short-floor-lts.Need-returns (claims t) (short-floor-at t) short-floor.Post
-short-floor-returns t c = (fewer-passed _ (c .lower .ensures .0) (c .before .before .before .before .before .before .parts-floor .ensures .0), c .lower .ensures .2 (c .before .before .before .before .before .before .parts-floor .ensures .1) (c .before .short-floor .ensures .1), omega (arith, c .lower .ensures .0, c .before .before .before .before .before .before .parts-floor .ensures .2), λ z. c .before .before .before .before .before .before .parts-floor .ensures .3 (omega (arith, z, c .lower .ensures .0)))
+short-floor-returns t c = (fewer-passed _ (c .lower .ensures .0) (c .before .before .before .before .before .before .parts-floor .ensures .0), c .lower .ensures .2 (c .before .before .before .before .before .before .parts-floor .ensures .1) (c .before .short-floor .ensures .1), omega (arith, c .lower .ensures .0, c .before .before .before .before .before .before .parts-floor .ensures .2))
 
 short-floor-returns-2 : (t : ℕ) → short-floor-lts.Need-returns-2 (claims t) (short-floor-at t) short-floor.Post
 short-floor-returns-2 t c = c .before .before .before .before .parts-floor .ensures

@@ -1,4 +1,4 @@
-use Rattle.check_file.proofs.Passing.{Cleared, cleared-none, cleared-next, cleared-all, cleared-ten, part-room, part-within, part-asks}
+use Rattle.check_file.proofs.Passing.{Cleared, cleared-none, cleared-next, cleared-all, part-room, part-within, part-asks}
 use Rattle.records.proofs.PartWalks.{start-first, start-next}
 use Rattle.records.specs.Parts.{startOf}
 use mathlib.Core.Path.{_≡_, refl, _∙_}
@@ -59,7 +59,7 @@ same-length-3 : tie.Need-same-length-3 Inv-loop μ-loop
 same-length-3 c = c .before .before .before .before .before .before .before .part-floor .ensures .1 .2 ∙ c .before .before .before .before .before .before .before .before .before .before .before .before .before .before .loop .inv .2 .2
 
 returns : tie.Need-returns Inv-loop μ-loop
-returns c = (none-passed _, search needs, search needs, λ z. absurd (omega arith))
+returns c = (none-passed _, search needs, search needs)
 
 lower-requires : tie.Need-lower-requires Inv-loop μ-loop
 lower-requires c κs = search needs
@@ -86,7 +86,7 @@ same-length-6 : tie.Need-same-length-6 Inv-loop μ-loop
 same-length-6 c = c .before .loop .inv .2 .2
 
 returns-2 : tie.Need-returns-2 Inv-loop μ-loop
-returns-2 c = (cleared-all _ _ _ _ (c .before .before .function-count .ensures .0) (omega (arith, c .loop-test .left)) (c .before .loop .inv .3), c .before .loop .inv .4, c .before .loop .inv .5, cleared-ten _ _ _ _ (c .before .before .function-count .ensures .0) (omega (arith, c .loop-test .left)) (c .before .loop .inv .3))
+returns-2 c = (cleared-all _ _ _ _ (c .before .before .function-count .ensures .0) (omega (arith, c .loop-test .left)) (c .before .loop .inv .3), c .before .loop .inv .4, c .before .loop .inv .5)
 
 pub parts-floor-spec : {M : Type 1} → statement M
 parts-floor-spec =

@@ -1,4 +1,4 @@
-use mathlib.Core.Bool.{not, false≢true}
+use mathlib.Core.Bool.{not}
 use mathlib.Core.Logic.{⊎-elim}
 use mathlib.Core.Path.{sym, ap, _∙_}
 use Prim.Native.Nat.{_-_, _≤_}
@@ -43,7 +43,7 @@ node-ok-requires : tie.Need-node-ok-requires Inv-loop μ-loop
 node-ok-requires c κs = ((c .before .before .before .before .before .before .before .before .before .before .before .before .pre .0 .0 .heads, c .before .before .before .before .before .before .before .before .before .before .before .before .pre .0 .1), search needs)
 
 returns : tie.Need-returns Inv-loop μ-loop
-returns c = λ z. absurd (false≢true z)
+returns c = λ z. absurd (omega arith)
 
 count-decl-requires : tie.Need-count-decl-requires Inv-loop μ-loop
 count-decl-requires c κs = (search needs, (decl-narrow _ _ _ _ (c .before .before .before .before .before .before .before .before .before .before .before .before .before .before .pre .0 .0) (c .before .before .before .before .before .before .before .before .before .before .before .before .before .before .pre .0 .1) (sym (c .before .node-ok .ensures) ∙ not-false _ (c .if2 .left)), c .before .before .before .before .before .before .before .loop .inv .2))
@@ -63,11 +63,11 @@ loop-again c = ⊎-elim (λ w. (search needs, below-more _ _ (c .before .before 
 lowest-undeclared-requires : tie.Need-lowest-undeclared-requires Inv-loop μ-loop
 lowest-undeclared-requires c κs = ((omega (arith, c .before .before .before .before .before .before .before .before .pre .0 .0 .heads, c .before .before .before .before .before .before .before .before .pre .0 .1), c .before .before .before .before .before .before .before .before .pre .0 .0 .vars _ (c .before .before .before .before .before .before .before .before .pre .0 .1), c .before .before .before .before .before .before .before .before .pre .0 .0 .params _ (c .before .before .before .before .before .before .before .before .pre .0 .1)), rw (le-antisymm (c .loop-test .left) (c .before .loop .inv .0)) (c .before .loop .inv .2))
 
-is-nothing-requires : tie.Need-is-nothing-requires Inv-loop μ-loop
-is-nothing-requires c κs = search needs
+past-seven-requires : tie.Need-past-seven-requires Inv-loop μ-loop
+past-seven-requires c κs = search needs
 
 returns-2 : tie.Need-returns-2 Inv-loop μ-loop
-returns-2 c = λ z. surveyed _ _ _ _ _ _ _ (c .before .before .loop-test .left) (c .before .before .before .loop .inv .0) (c .before .before .before .loop .inv .1) (c .before .before .before .loop .inv .3) (c .before .lowest-undeclared .ensures) (c .is-nothing .ensures z)
+returns-2 c = λ z. surveyed _ _ _ _ _ _ _ _ (c .before .before .loop-test .left) (c .before .before .before .loop .inv .0) (c .before .before .before .loop .inv .1) (c .before .before .before .loop .inv .3) (c .before .lowest-undeclared .ensures) (c .past-seven .ensures .0)
 
 pub survey-part-spec : {M : Type 1} → statement M
 survey-part-spec =
@@ -89,5 +89,5 @@ survey-part-spec =
     loop-less
     loop-again
     lowest-undeclared-requires
-    is-nothing-requires
+    past-seven-requires
     returns-2)
