@@ -130,7 +130,7 @@ pub fn file_floor(file: &[u8]) -> u8
 }
 
 // The first of two answers where it refuses, else the second.
-fn either(first: Answer, second: Answer) -> Answer
+pub fn either(first: Answer, second: Answer) -> Answer
     ensures { λ r. ⌜ (r ≡ first) ⊎ (r ≡ second) ⌝ }
 {
     match first {

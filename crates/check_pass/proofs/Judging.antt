@@ -170,7 +170,7 @@ module _ (t : List ℕ) (i : ℕ) {b sb : ℕ} (q : b ≡ i - 1) (x : sb ≡ siz
 
 module _ (s : List ℕ) (f : ℕ) (t : List ℕ) (n i : ℕ) {d : Set} {b sb : ℕ} (q : b ≡ i - 1) (x : sb ≡ sizeAt t b) where
   pub scope-judged : {v c r w c₁ r₁ w₁ : ℕ} (fit : Bool) → kindAt t i ≡ 9 → v ≡ bAt t i → (fit ≡ true → Fits t i sb) → (b < i → Judged s f t n d b c₁ r₁ w₁)
-      → ((leb 3 c₁ && leb 3 c) && fit) ≡ true → ((s : Statement) (d : Set) → d v ≡ true → Means s d c₁ r₁ w₁ → c < 255 → Means (Decl v s) d c r w) → d (bAt t i) ≡ true → c < 255
+      → ((leb 3 c₁ && leb 3 c) && fit) ≡ true → ((s : Statement) (d : Set) → d v ≡ true → Means s d c₁ r₁ w₁ → c < 255 → Means (Decl v s) d c r w) → ((sizeAt t i ≡ 1 → ⊥) → d (bAt t i) ≡ true) → c < 255
       → Judged s f t n d i c r w
   unfolding total prior last arityAt arityOf arities isExpression wantsExpression wantAt wantsOf outside usesVariable
   scope-judged {v} {c} {r} {w} {c₁} fit k e₀ g jb z h own l =
@@ -183,7 +183,7 @@ module _ (s : List ℕ) (f : ℕ) (t : List ℕ) (n i : ℕ) {d : Set} {b sb : �
       judged s f t n i (b ∷ []) (one-child s f t n i (rw k) q) (m .0) (m .1)
       (kid-statement s f t n i 0 b c₁ (rw k) (rw k) (jb (p .1)) l₁, tt)
       (rw k) (rw (k, le-ltb c 3 l₃)) (λ y. absurd (omega arith)) (λ y. absurd (omega arith))
-      (rw (statement-decl t i k (p .0), ← q, ← e₀) (h (statementAt t b) d (rw e₀ own) (jb (p .1) .means) l))
+      (rw (statement-decl t i k (p .0), ← q, ← e₀) (h (statementAt t b) d (rw e₀ (own (λ y. absurd (omega (arith, e .0, x, jb (p .1) .size, y))))) (jb (p .1) .means) l))
 
   pub assign-judged : {v want code c r w rb wb : ℕ} (suited stray fit : Bool) → kindAt t i ≡ 8 → v ≡ bAt t i → want ≡ varType s f t n v → stray ≡ outside s f t n i → (fit ≡ true → Fits t i sb)
       → (b < i → Judged s f t n d b code rb wb) → suited ≡ suits want code → (((ltb code 3 && suited) && not stray) && fit) ≡ true

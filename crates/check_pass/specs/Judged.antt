@@ -53,6 +53,10 @@ pub record PartFacts (s : List ℕ) (f : ℕ) (t : List ℕ) (n : ℕ) (decls : 
   pub calls : CallsKnown (functions s) t n
   pub told : Decls t n decls
 
+-- the variable of node i is one of the declared, where the node is a decl with a statement under it
+abbrev pub Own : List ℕ → Set → ℕ → Type 0
+Own t d i = kindAt t i ≡ 9 → (sizeAt t i ≡ 1 → ⊥) → d (bAt t i) ≡ true
+
 -- what is known where the pass comes to node i
 pub record AtNode (s : List ℕ) (f : ℕ) (t : List ℕ) (n : ℕ) (decls codes reads sets : List ℕ) (d : Set) (i : ℕ) : Type 0 where
   pub part : PartFacts s f t n decls
@@ -61,7 +65,7 @@ pub record AtNode (s : List ℕ) (f : ℕ) (t : List ℕ) (n : ℕ) (decls codes
   pub readRoom : n ≤ length reads
   pub setRoom : n ≤ length sets
   pub filled : Filled s f t n d i codes reads sets
-  pub own : kindAt t i ≡ 9 → d (bAt t i) ≡ true
+  pub own : Own t d i
 
 -- node i, which is no variable, has no children, and its code is `code`
 pub record Leaf (s : List ℕ) (f : ℕ) (t : List ℕ) (n i code : ℕ) : Type 0 where

@@ -4,6 +4,7 @@ pub mod survey;
 
 use check_effects::Effect;
 use check_effects::plain;
+use records::format::TOO_LONG;
 use records::format::TYPE_ANY;
 use records::format::TYPE_UNSET;
 use records::format::VARIABLE_ENTRIES;
@@ -21,12 +22,12 @@ ghost use mathlib.Core.Bool.{true};
 ghost use Prim.Native.Nat.{_+_, _*_, _-_, _≤_, _<_};
 ghost use lib.ListN.{length, set};
 ghost use Rattle.spec_language.specs.Types.{unset};
-ghost use Rattle.records.specs.Format.{mostNodes};
-ghost use Rattle.varset.specs.Sets.{has};
-ghost use Rattle.records.specs.Fields.{functions, kindAt};
+ghost use Rattle.records.specs.Format.{mostNodes, mostVariables};
+ghost use Rattle.varset.specs.Sets.{has, Sub};
+ghost use Rattle.records.specs.Fields.{functions, kindAt, bAt};
 ghost use Rattle.records.specs.Parts.{Laid};
 ghost use Rattle.check_pass.specs.Passed.{Passed, ClearBelow};
-ghost use Rattle.check_pass.specs.Judged.{Judged, PartFacts, AtNode};
+ghost use Rattle.check_pass.specs.Judged.{Judged, PartFacts, Own, AtNode};
 
 // A call.
 fn call_at(
@@ -64,8 +65,8 @@ fn call_at(
     nodes::guard(passes, plain(found, all, VarSet::empty()))
 }
 
-// A node of any kind; by kind.
-fn node_at(
+// A node of one node; by kind.
+fn alone_at(
     file: &[u8],
     f: usize,
     part: &[u8],
@@ -81,18 +82,45 @@ fn node_at(
     ensures { λ r. ⌜ (r .code < unset → Judged (now (file .entry)) f (now (part .entry)) n (has (seen .0)) i (r .code) (r .reads .0) (r .sets .0)) ⌝ }
 {
     let kind = kind_at(part, i);
-    let t = result_of(file, f);
     match kind {
         0 => nodes::leaf_at(file, f, part, n, decls, codes, reads, sets, seen, i, 1),
         1 => nodes::leaf_at(file, f, part, n, decls, codes, reads, sets, seen, i, 2),
         2 => nodes::variable_at(file, f, part, n, decls, codes, reads, sets, seen, i),
+        5 => call_at(file, f, part, n, decls, codes, reads, sets, seen, i),
+        6 => nodes::leaf_at(file, f, part, n, decls, codes, reads, sets, seen, i, 3),
+        15 => nodes::leaf_at(file, f, part, n, decls, codes, reads, sets, seen, i, 0),
+        _ => plain(TYPE_UNSET, VarSet::empty(), VarSet::empty()),
+    }
+}
+
+// A node of any kind, by whether it is alone, which is told sooner than its kind; by kind.
+fn node_at(
+    file: &[u8],
+    f: usize,
+    part: &[u8],
+    n: usize,
+    decls: &[usize; VARIABLE_ENTRIES],
+    codes: &[u8],
+    reads: &[u64],
+    sets: &[u64],
+    seen: VarSet,
+    i: usize,
+) -> Effect
+    requires { ⌜ AtNode (now file) f (now part) n (now decls) (now codes) (now reads) (now sets) (has (seen .0)) i ⌝ }
+    ensures { λ r. ⌜ (r .code < unset → Judged (now (file .entry)) f (now (part .entry)) n (has (seen .0)) i (r .code) (r .reads .0) (r .sets .0)) ⌝ }
+{
+    if size_at(part, i) == 1 {
+        return alone_at(file, f, part, n, decls, codes, reads, sets, seen, i);
+    }
+    let kind = kind_at(part, i);
+    let t = result_of(file, f);
+    match kind {
         3 => {
             let t = check_types::operator_type(a_at(part, i));
             nodes::operator_at(file, f, part, n, decls, codes, reads, sets, seen, i, 1, t)
         }
         4 => nodes::operator_at(file, f, part, n, decls, codes, reads, sets, seen, i, 2, 2),
         5 => call_at(file, f, part, n, decls, codes, reads, sets, seen, i),
-        6 => nodes::leaf_at(file, f, part, n, decls, codes, reads, sets, seen, i, 3),
         7 => nodes::sequence_at(file, f, part, n, decls, codes, reads, sets, seen, i),
         8 => nodes::assign_at(file, f, part, n, decls, codes, reads, sets, seen, i),
         9 => nodes::scope_at(file, f, part, n, decls, codes, reads, sets, seen, i),
@@ -114,9 +142,20 @@ fn node_at(
             TYPE_ANY,
             3,
         ),
-        15 => nodes::leaf_at(file, f, part, n, decls, codes, reads, sets, seen, i, 0),
         _ => plain(TYPE_UNSET, VarSet::empty(), VarSet::empty()),
     }
+}
+
+// The variables declared up to node i, where those before it are given; a decl that is alone is left out, since it does not pass.
+fn declared(part: &[u8], i: usize, seen: VarSet) -> VarSet
+    requires { ⌜ (12 * i + 12 ≤ length (now part)) × (kindAt (now part) i ≡ 9 → bAt (now part) i < mostVariables) ⌝ }
+    ensures grown { λ r. ⌜ Sub (has (seen .0)) (has (r .0)) ⌝ }
+    ensures own { λ r. ⌜ Own (now (part .entry)) (has (r .0)) i ⌝ }
+{
+    if size_at(part, i) == 1 {
+        return seen;
+    }
+    check_effects::with_decl(part, i, seen)
 }
 
 // The effect of node i, kept in the working arrays.
@@ -142,7 +181,8 @@ fn least(held: bool, returning: bool) -> u8
     15
 }
 
-// The least question from 8 to 14, but for 10, that may fail in a part of n nodes; 15 where none may.
+// The least question from 8 to 14, but for 10, that may fail in a part of n nodes, 15 where none may; the function calls itself k times,
+// so that its loop need not share registers with what calls it (k is 0 for every file that comes here).
 fn floor(
     file: &[u8],
     f: usize,
@@ -153,6 +193,7 @@ fn floor(
     codes: &mut [u8],
     reads: &mut [u64],
     sets: &mut [u64],
+    k: usize,
 ) -> u8
     requires inside { ⌜ PartFacts (now file) f (now part) n (now decls) × (1 ≤ n) × (n ≤ mostNodes) ⌝ }
     requires room { ⌜ (n ≤ length (now codes)) × (n ≤ length (now reads)) × (n ≤ length (now sets)) ⌝ }
@@ -162,7 +203,7 @@ fn floor(
     let mut seen = VarSet::empty();
     let mut i = 0;
     while i < n {
-        seen = check_effects::with_decl(part, i, seen);
+        seen = declared(part, i, seen);
         let e = node_at(file, f, part, n, decls, codes, reads, sets, seen, i);
         if e.code == TYPE_UNSET {
             return check_rest::floor_from(file, f, part, n, decls, i);
@@ -177,7 +218,12 @@ fn floor(
     }
     let late = body.reads;
     let held = late.minus(begun).is_empty();
-    least(held, body.code == 4)
+    let own = least(held, body.code == 4);
+    if 0 < k {
+        let again = floor(file, f, part, n, decls, begun, codes, reads, sets, k - 1);
+        return check_rest::lower(again, own);
+    }
+    own
 }
 
 // The least question from 7 to 14 that may fail in the part of function f, of n nodes; 15 where none may.
@@ -205,5 +251,16 @@ pub fn part_floor(
         return check_rest::lower(check_rest::floor_from(file, f, part, n, &decls, 0), 10);
     }
     let begun = VarSet::below(wide(params_of(file, f)));
-    floor(file, f, part, n, &decls, begun, codes, reads, sets)
+    floor(
+        file,
+        f,
+        part,
+        n,
+        &decls,
+        begun,
+        codes,
+        reads,
+        sets,
+        file.len() / TOO_LONG,
+    )
 }
