@@ -9,6 +9,7 @@ use records::function_count;
 use records::shift_by;
 ghost use mathlib.Core.Path.{_≡_};
 ghost use mathlib.Core.Bool.{true, _||_};
+ghost use mathlib.Core.Logic.{_⊎_};
 ghost use Prim.Native.Nat.{ℕ, _+_, _*_, _-_, _≤_, _<_};
 ghost use lib.Dec.{eqb};
 ghost use lib.ListN.{length, getD};
@@ -134,6 +135,16 @@ fn check_parts(file: &[u8]) -> Answer
     sizes::check_flows(file, sizes::greater(least, 13))
 }
 
+// The first of two answers where it refuses, else the second.
+fn either(first: Answer, second: Answer) -> Answer
+    ensures { λ r. ⌜ (r ≡ first) ⊎ (r ≡ second) ⌝ }
+{
+    match first {
+        Answer::Accepted => second,
+        Answer::Refused(refusal) => Answer::Refused(refusal),
+    }
+}
+
 // Questions 4 to 14; the function calls itself k times, so that questions 1 to 3 need not make room for it (see sizes.rt).
 fn check_functions(file: &[u8], k: usize) -> Answer
     requires { ⌜ (36 ≤ length (now file)) × (headerOk (now file) ≡ true) × (recordsOk (now file) ≡ true) ⌝ }
@@ -164,7 +175,7 @@ fn check_functions(file: &[u8], k: usize) -> Answer
     }
     let own = check_parts(file);
     if 0 < k {
-        return sizes::either(check_functions(file, k - 1), own);
+        return either(check_functions(file, k - 1), own);
     }
     own
 }

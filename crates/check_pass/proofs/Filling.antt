@@ -105,17 +105,6 @@ module _ (s : List ℕ) (f : ℕ) (t : List ℕ) (n : ℕ) where
         returning = λ k. absurd (omega arith);
       }
 
-  pub passed-fewer : {begun : Set} {r q : ℕ} → r ≤ q → Passed s f t n begun q → Passed s f t n begun r
-  passed-fewer l h =
-      record {
-        sized = λ k. h .sized (omega arith);
-        placed = λ k. h .placed (omega arith);
-        scoped = λ k. h .scoped (omega arith);
-        typed = λ k. h .typed (omega arith);
-        reading = λ k. h .reading (omega arith);
-        returning = λ k. h .returning (omega arith);
-      }
-
   pub all-below : {d : Set} {codes reads sets : List ℕ} {i₀ last size code r w q : ℕ} (late : ℕ) (begun : Set) (e : Bool) → 1 ≤ n → n ≤ i₀ → Filled s f t n d i₀ codes reads sets → last ≡ n - 1
       → (last < i₀ → Judged s f t n d last code r w) → size ≡ sizeAt t last → has late ≡ less (has r) begun → (e ≡ true → has late ≡ none)
       → (eqb size n && leb 3 code) ≡ true → (13 < q → e ≡ true) × (14 < q → eqb code 4 ≡ true) × (13 ≤ q) × (q ≤ 15) → Passed s f t n begun q

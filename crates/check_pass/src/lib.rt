@@ -4,7 +4,6 @@ pub mod survey;
 
 use check_effects::Effect;
 use check_effects::plain;
-use records::format::TOO_LONG;
 use records::format::TYPE_ANY;
 use records::format::TYPE_UNSET;
 use records::format::VARIABLE_ENTRIES;
@@ -181,8 +180,7 @@ fn least(held: bool, returning: bool) -> u8
     15
 }
 
-// The least question from 8 to 14, but for 10, that may fail in a part of n nodes, 15 where none may; the function calls itself k times,
-// so that its loop need not share registers with what calls it (k is 0 for every file that comes here).
+// The least question from 8 to 14, but for 10, that may fail in a part of n nodes; 15 where none may.
 fn floor(
     file: &[u8],
     f: usize,
@@ -193,7 +191,6 @@ fn floor(
     codes: &mut [u8],
     reads: &mut [u64],
     sets: &mut [u64],
-    k: usize,
 ) -> u8
     requires inside { ⌜ PartFacts (now file) f (now part) n (now decls) × (1 ≤ n) × (n ≤ mostNodes) ⌝ }
     requires room { ⌜ (n ≤ length (now codes)) × (n ≤ length (now reads)) × (n ≤ length (now sets)) ⌝ }
@@ -218,12 +215,7 @@ fn floor(
     }
     let late = body.reads;
     let held = late.minus(begun).is_empty();
-    let own = least(held, body.code == 4);
-    if 0 < k {
-        let again = floor(file, f, part, n, decls, begun, codes, reads, sets, k - 1);
-        return check_rest::lower(again, own);
-    }
-    own
+    least(held, body.code == 4)
 }
 
 // The least question from 7 to 14 that may fail in the part of function f, of n nodes; 15 where none may.
@@ -251,16 +243,5 @@ pub fn part_floor(
         return check_rest::lower(check_rest::floor_from(file, f, part, n, &decls, 0), 10);
     }
     let begun = VarSet::below(wide(params_of(file, f)));
-    floor(
-        file,
-        f,
-        part,
-        n,
-        &decls,
-        begun,
-        codes,
-        reads,
-        sets,
-        file.len() / TOO_LONG,
-    )
+    floor(file, f, part, n, &decls, begun, codes, reads, sets)
 }

@@ -15,7 +15,7 @@ use Rattle.check_file.proofs.check_functions.Reads as check-functions
 use Rattle.check_file.proofs.check_functions.Kinds as check-functions-kinds
 use Rattle.check_file.proofs.+check_functions.Lts-check_functions as check-functions-lts
 use Rattle.check_file.proofs.check_parts.Reads as check-parts-reads
-use Rattle.check_file.proofs.sizes.either.Reads as either-reads
+use Rattle.check_file.proofs.either.Reads as either-reads
 use Rattle.check_header.proofs.main_ok.Reads as main-ok-reads
 use Rattle.check_header.proofs.sum_ok.Reads as sum-ok-reads
 use Rattle.check_shape.proofs.first_function.Reads as first-function-reads
