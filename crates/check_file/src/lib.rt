@@ -3,13 +3,10 @@ mod sizes;
 
 use records::Found;
 use records::count_of;
-use records::format::SHORTEST_FILE;
-use records::format::TOO_LONG;
 use records::function_count;
 use records::shift_by;
 ghost use mathlib.Core.Path.{_≡_};
 ghost use mathlib.Core.Bool.{true, _||_};
-ghost use mathlib.Core.Logic.{_⊎_};
 ghost use Prim.Native.Nat.{ℕ, _+_, _*_, _-_, _≤_, _<_};
 ghost use lib.Dec.{eqb};
 ghost use lib.ListN.{length, getD};
@@ -135,18 +132,8 @@ fn check_parts(file: &[u8]) -> Answer
     sizes::check_flows(file, sizes::greater(least, 13))
 }
 
-// The first of two answers where it refuses, else the second.
-fn either(first: Answer, second: Answer) -> Answer
-    ensures { λ r. ⌜ (r ≡ first) ⊎ (r ≡ second) ⌝ }
-{
-    match first {
-        Answer::Accepted => second,
-        Answer::Refused(refusal) => Answer::Refused(refusal),
-    }
-}
-
-// Questions 4 to 14; the function calls itself k times, so that questions 1 to 3 need not make room for it (see sizes.rt).
-fn check_functions(file: &[u8], k: usize) -> Answer
+// Questions 4 to 14.
+fn check_functions(file: &[u8]) -> Answer
     requires { ⌜ (36 ≤ length (now file)) × (headerOk (now file) ≡ true) × (recordsOk (now file) ≡ true) ⌝ }
     ensures exact { λ r. ⌜ says r ≡ firstRefusal (fromFour (now (file .entry))) ⌝ }
     ensures small { λ r. ⌜ Small r ⌝ }
@@ -173,11 +160,7 @@ fn check_functions(file: &[u8], k: usize) -> Answer
             item: 0,
         });
     }
-    let own = check_parts(file);
-    if 0 < k {
-        return either(check_functions(file, k - 1), own);
-    }
-    own
+    check_parts(file)
 }
 
 // Whether the file passes questions 1 to 14; else the first question that it fails, with its place and item.
@@ -185,15 +168,7 @@ pub fn check(file: &[u8]) -> Answer
     ensures exact { λ r. ⌜ says r ≡ checkOf (now (file .entry)) ⌝ }
     ensures small { λ r. ⌜ Small r ⌝ }
 {
-    let len = file.len();
-    if len % 12 != 0 {
-        return Answer::Refused(Refusal {
-            question: 1,
-            place: 0,
-            item: 0,
-        });
-    }
-    if len < SHORTEST_FILE {
+    if !check_header::length_ok(file) {
         return Answer::Refused(Refusal {
             question: 1,
             place: 0,
@@ -214,5 +189,5 @@ pub fn check(file: &[u8]) -> Answer
             item: 0,
         });
     }
-    check_functions(file, len / TOO_LONG)
+    check_functions(file)
 }

@@ -14,6 +14,7 @@ use records::format::TOO_LONG;
 use records::format::TYPE_UNSET;
 use records::function_count;
 ghost use mathlib.Core.Path.{_≡_};
+ghost use mathlib.Core.Logic.{_⊎_};
 ghost use Prim.Native.Nat.{_+_, _*_, _≤_, _<_};
 ghost use lib.ListN.{length};
 ghost use Rattle.records.specs.Fields.{functions};
@@ -128,6 +129,16 @@ pub fn file_floor(file: &[u8]) -> u8
     long_floor(file, k)
 }
 
+// The first of two answers where it refuses, else the second.
+fn either(first: Answer, second: Answer) -> Answer
+    ensures { λ r. ⌜ (r ≡ first) ⊎ (r ≡ second) ⌝ }
+{
+    match first {
+        Answer::Accepted => second,
+        Answer::Refused(refusal) => Answer::Refused(refusal),
+    }
+}
+
 // Questions 13 and 14, from q on, put to files of up to 256 nodes.
 fn short_flows(file: &[u8], q: u8, k: usize) -> Answer
     requires { ⌜ AtFlows (now file) q × (length (now file) ≤ 12 * (1 + functions (now file) + 256)) ⌝ }
@@ -136,7 +147,7 @@ fn short_flows(file: &[u8], q: u8, k: usize) -> Answer
     let mut table = [0u64; 5 * SHORT_NODES];
     let own = crate::ask(file, q, 15, &mut table);
     if 0 < k {
-        return crate::either(short_flows(file, q, k - 1), own);
+        return either(short_flows(file, q, k - 1), own);
     }
     own
 }
@@ -149,7 +160,7 @@ fn middle_flows(file: &[u8], q: u8, k: usize) -> Answer
     let mut table = [0u64; 5 * MIDDLE_NODES];
     let own = crate::ask(file, q, 15, &mut table);
     if 0 < k {
-        return crate::either(middle_flows(file, q, k - 1), own);
+        return either(middle_flows(file, q, k - 1), own);
     }
     own
 }
@@ -162,7 +173,7 @@ fn long_flows(file: &[u8], q: u8, k: usize) -> Answer
     let mut table = [0u64; 5 * MOST_NODES];
     let own = crate::ask(file, q, 15, &mut table);
     if 0 < k {
-        return crate::either(long_flows(file, q, k - 1), own);
+        return either(long_flows(file, q, k - 1), own);
     }
     own
 }

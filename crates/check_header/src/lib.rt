@@ -1,9 +1,10 @@
-// Questions 2, 3, 5 and 6: the header, the file's length, the part counts and main.
+// Questions 1, 2, 3, 5 and 6: the length, the header, the number of records, the part counts and main.
 use records::count_of;
 use records::format::HEADER_MARK;
 use records::format::LAST_EDITION;
 use records::format::MOST_FUNCTIONS;
 use records::format::MOST_NODES;
+use records::format::SHORTEST_FILE;
 use records::function_count;
 use records::mark_at;
 use records::node_count;
@@ -17,7 +18,15 @@ ghost use lib.ListN.{length};
 ghost use Rattle.records.specs.Format.{mostFunctions};
 ghost use Rattle.records.specs.Fields.{nodes};
 ghost use Rattle.records.specs.Parts.{sumOf};
-ghost use Rattle.spec_language.specs.Records.{headerOk, recordsOk, mainOk};
+ghost use Rattle.spec_language.specs.Records.{lengthOk, headerOk, recordsOk, mainOk};
+
+// Whether the file is of whole records, and of three or more.
+pub fn length_ok(file: &[u8]) -> bool
+    ensures { λ r. ⌜ r ≡ lengthOk (now (file .entry)) ⌝ }
+{
+    let len = file.len();
+    (len % 12 == 0) & (SHORTEST_FILE <= len)
+}
 
 // Whether the header is right.
 pub fn header_ok(file: &[u8]) -> bool

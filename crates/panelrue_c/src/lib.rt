@@ -41,11 +41,15 @@ fn number(answer: Answer) -> u64
     }
 }
 
-// 0 where the file passes the check; else the question, 256 times the item and 65,536 times the place together.
+// 0 where the file passes the check; else the question, 256 times the item and 65,536 times the place together. Question 1 is asked here too,
+// before the check makes room for its work.
 #[no_mangle]
 pub extern "C" fn panelrue_check(file: &[u8]) -> u64
     ensures { λ r. ⌜ r ≡ packed (checkOf (now (file .entry))) ⌝ }
 {
+    if !check_header::length_ok(file) {
+        return 1;
+    }
     number(check_file::check(file))
 }
 

@@ -1,8 +1,17 @@
-use mathlib.Core.Path.{_∙_, ap}
+use mathlib.Core.Path.{sym, _∙_, ap}
 use Rattle.panelrue_c.specs.Packed.{packed}
+use Rattle.check_file.proofs.Stages.{one-fails}
+use borrow.Author.Tests.{not-true}
 use borrow.Author.Needs.{needs}
 use Rattle.panelrue_c.proofs.panelrue_check.Statement.{statement}
 use Rattle.panelrue_c.proofs.panelrue_check.Tie as tie
+
+length-ok-requires : tie.Need-length-ok-requires
+length-ok-requires c κs = search needs
+
+returns : tie.Need-returns
+unfolding packed
+returns c = sym (ap packed (one-fails _ (sym (c .before .length-ok .ensures) ∙ not-true _ (c .if1 .taken))))
 
 check-requires : tie.Need-check-requires
 check-requires c κs = search needs
@@ -10,8 +19,8 @@ check-requires c κs = search needs
 number-requires : tie.Need-number-requires
 number-requires c κs = search needs
 
-returns : tie.Need-returns
-returns c = c .number .ensures ∙ ap packed (c .before .check .ensures .0)
+returns-2 : tie.Need-returns-2
+returns-2 c = c .number .ensures ∙ ap packed (c .before .check .ensures .0)
 
 pub panelrue-check-spec : {M : Type 1} → statement M
-panelrue-check-spec = tie.close (tie.spec check-requires number-requires returns)
+panelrue-check-spec = tie.close (tie.spec length-ok-requires returns check-requires number-requires returns-2)

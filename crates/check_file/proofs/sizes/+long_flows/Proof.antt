@@ -12,7 +12,7 @@ use borrow.Fn.PlainCycle.{Measures, is, falls, and}
 use Rattle.check_file.proofs.sizes.long_flows.Reads as long-flows
 use Rattle.check_file.proofs.sizes.long_flows.Kinds as long-flows-kinds
 use Rattle.check_file.proofs.sizes.+long_flows.Lts-long_flows as long-flows-lts
-use Rattle.check_file.proofs.either.Reads as either-reads
+use Rattle.check_file.proofs.sizes.either.Reads as either-reads
 use Rattle.check_file.proofs.ask.Reads as ask-reads
 use Rattle.check_file.proofs.sizes.+long_flows.{statement}
 use Rattle.check_file.proofs.sizes.+long_flows.Tie.{close}

@@ -12,7 +12,7 @@ use borrow.Fn.PlainCycle.{Measures, is, falls, and}
 use Rattle.check_file.proofs.sizes.middle_flows.Reads as middle-flows
 use Rattle.check_file.proofs.sizes.middle_flows.Kinds as middle-flows-kinds
 use Rattle.check_file.proofs.sizes.+middle_flows.Lts-middle_flows as middle-flows-lts
-use Rattle.check_file.proofs.either.Reads as either-reads
+use Rattle.check_file.proofs.sizes.either.Reads as either-reads
 use Rattle.check_file.proofs.ask.Reads as ask-reads
 use Rattle.check_file.proofs.sizes.+middle_flows.{statement}
 use Rattle.check_file.proofs.sizes.+middle_flows.Tie.{close}

@@ -12,7 +12,7 @@ use borrow.Fn.PlainCycle.{Measures, is, falls, and}
 use Rattle.check_file.proofs.sizes.short_flows.Reads as short-flows
 use Rattle.check_file.proofs.sizes.short_flows.Kinds as short-flows-kinds
 use Rattle.check_file.proofs.sizes.+short_flows.Lts-short_flows as short-flows-lts
-use Rattle.check_file.proofs.either.Reads as either-reads
+use Rattle.check_file.proofs.sizes.either.Reads as either-reads
 use Rattle.check_file.proofs.ask.Reads as ask-reads
 use Rattle.check_file.proofs.sizes.+short_flows.{statement}
 use Rattle.check_file.proofs.sizes.+short_flows.Tie.{close}

@@ -1,8 +1,8 @@
 use mathlib.Core.Path.{refl, sym}
 use mathlib.Core.Logic.{inl, inr}
 use borrow.Author.Needs.{needs}
-use Rattle.check_file.proofs.either.Statement.{statement}
-use Rattle.check_file.proofs.either.Tie as tie
+use Rattle.check_file.proofs.sizes.either.Statement.{statement}
+use Rattle.check_file.proofs.sizes.either.Tie as tie
 
 enum-told : tie.Need-enum-told
 enum-told c = search needs
