@@ -27,6 +27,13 @@ pub fn spoil_twice(file: &File, rng: &mut Rng) -> Vec<u8> {
     file.bytes()
 }
 
+/// The bytes of a file with a defect aimed at each of two questions from 2 to 14.
+pub fn spoil_for(questions: [u8; 2], file: &File, rng: &mut Rng) -> Vec<u8> {
+    let mut file = file.clone();
+    questions.iter().for_each(|question| apply(*question, &mut file, rng));
+    file.bytes()
+}
+
 /// Puts a defect aimed at a question from 2 to 14 into a file.
 fn apply(question: u8, file: &mut File, rng: &mut Rng) {
     match question {

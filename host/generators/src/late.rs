@@ -1,4 +1,4 @@
-//! Files of close to a given number of nodes that each question refuses as late as it can.
+//! Files of close to a given number of nodes that each question refuses as late as it can, and one that shows itself early.
 
 use crate::record::{File, NodeRecord};
 use crate::shapes;
@@ -7,8 +7,8 @@ use crate::tree::*;
 /// A shape with a question's number in its name, and its bytes for so many nodes.
 pub type Late = (&'static str, fn(usize) -> Vec<u8>);
 
-/// One file for each question, in order, and one more for early returns.
-pub const ALL: [Late; 15] = [
+/// One file for each question, in order, one more for early returns and one whose fault is seen at the first nodes.
+pub const ALL: [Late; 16] = [
     ("refused by 1", |nodes| shapes::functions(nodes).bytes()[1..].to_vec()),
     ("refused by 2", |nodes| shapes::functions(nodes).with(|f| f.header.zeros[2] = 1).bytes()),
     ("refused by 3", |nodes| shapes::functions(nodes).with(add_nop).bytes()),
@@ -24,6 +24,7 @@ pub const ALL: [Late; 15] = [
     ("refused by 13", empty_read),
     ("refused by 14", |nodes| without_return(shapes::seq_right(nodes))),
     ("refused by 13, a guard in a loop", guard_in_loop),
+    ("refused by 13, the first decl", first_decl),
 ];
 
 /// Puts one node more at the end.
@@ -66,6 +67,12 @@ fn guard_in_loop(nodes: usize) -> Vec<u8> {
     let body = (0..(nodes - 22) / 12).fold(last, |s, _| seq(guard(1), seq(discard(var(1)), s)));
     let all = seq(assign(0, int(1)), body);
     main(3, decl(0, INT, decl(1, INT, decl(2, INT, all)))).bytes()
+}
+
+/// A decl whose variable is read without a value, and a long seq after it.
+fn first_decl(nodes: usize) -> Vec<u8> {
+    let nops = (0..(nodes - 6) / 2).fold(ret(int(1)), |s, _| seq(nop(), s));
+    main(1, seq(decl(0, INT, discard(var(0))), nops)).bytes()
 }
 
 /// A file with its first return turned into an expression as statement.

@@ -43,5 +43,6 @@ pub fn groups() -> Vec<Group> {
         deep::accepted(),
         deep::refused(),
         borders::group(),
+        borders::two_defects(),
     ]
 }

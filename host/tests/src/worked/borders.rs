@@ -31,3 +31,20 @@ pub fn group() -> Group {
     }
     g
 }
+
+/// Every regular shape with two defects, for each two of questions 7 to 14 in either order.
+pub fn two_defects() -> Group {
+    let mut g = Group::new("two defects, by questions");
+    let mut rng = Rng::new(51);
+    for (name, shape) in shapes::ALL {
+        let file = shape(DECLS);
+        for first in 7..15 {
+            for second in 7..15 {
+                let spoilt = aimed::spoil_for([first, second], &file, &mut rng);
+                let expected = reference::check(&spoilt);
+                g.bytes(format!("{name}, spoilt for {first} and {second}"), spoilt, expected);
+            }
+        }
+    }
+    g
+}
