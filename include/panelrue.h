@@ -27,7 +27,7 @@ extern "C" {
 #define PANELRUE_VERSION_MAJOR 0
 #define PANELRUE_VERSION_MINOR 5
 #define PANELRUE_VERSION_PATCH 0
-#define PANELRUE_VERSION "0.5.0"
+#define PANELRUE_VERSION "0.5.1"
 
 /*
  * A length: of a file in bytes, of a memory and of room for an answer in words. It has 64 bits on every processor, where size_t may have
