@@ -14,7 +14,7 @@ use Rattle.varset.specs.Sets.{has, none, with}
 use Rattle.records.specs.Fields.{paramsOf, kindAt, bAt}
 use Rattle.spec_language.specs.Scopes.{declaresAt, declCount, declOf, under, usesVariable}
 use Rattle.spec_language.specs.Nodes.{outside}
-use Rattle.spec_language.specs.Known.{Known, namesVariable}
+use Rattle.spec_language.specs.Known.{namesVariable}
 use Rattle.check_scopes.specs.Counts.{Named, Counts, Decls, Noted}
 use Rattle.check_scopes.specs.declared.Declared.{Declared}
 

@@ -1,7 +1,7 @@
 use Rattle.check_pass.proofs.Clearing.{part-known, clear}
 use Rattle.check_pass.proofs.Filling.{sound-passed}
 use Rattle.check_scopes.proofs.Decls.{noted-none}
-use mathlib.Core.Path.{_≡_, refl, _∙_}
+use mathlib.Core.Path.{refl, _∙_}
 use native.Mathlib.Omega.{arith}
 use borrow.Author.Needs.{needs}
 use Rattle.check_pass.proofs.part_floor.Statement.{statement}
