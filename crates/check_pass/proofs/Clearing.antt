@@ -21,10 +21,10 @@ module _ (s : List ℕ) (f : ℕ) (t : List ℕ) (n : ℕ) where
       let seven = all-pass (nodeOk s f t) n (k .seven) in
       record { laid = g; function = l; inside = h; named = named s f t n g l seven; arguments = arguments s f t n g l seven; calls = calls s f t n g l seven; told = k .told }
 
-  -- what passes up to r where question 10 was asked, or up to 10
-  pub clear : {begun : Set} {decls : List ℕ} {a p r : ℕ} → begun ≡ below (paramsOf s f) → Surveyed s f t n decls a → Passed s f t n begun p → r ≤ p → (10 < r → 10 < a) → r ≤ 15 → ClearBelow s f t n r
+  -- no question below what the survey says and below what the pass says finds anything
+  pub clear : {begun : Set} {decls : List ℕ} {a p r : ℕ} → begun ≡ below (paramsOf s f) → Surveyed s f t n decls a → Passed s f t n begun p → r ≤ p → r ≤ a → r ≤ 15 → ClearBelow s f t n r
   unfolding answers
   clear {begun} {decls} {a} {p} {r} b k h u v top q low high =
       seven-to-fourteen (λ m. m < r → getD (answers s f t n) (m - 7) Nothing ≡ Nothing) (λ l. k .seven) (λ l. pass-all (sizeOk t n) n (h .sized (omega arith))) (λ l. none-fails (misplaced t n) n (h .placed (omega arith)))
-      (λ l. k .ten (v l)) (λ l. none-fails (outside s f t n) n (h .scoped (omega arith))) (λ l. none-fails (mistyped s f t n) n (h .typed (omega arith))) (λ l. rw (← b) (h .reading (omega arith))) (λ l. none-unless _ 0 (h .returning (omega arith)))
+      (λ l. k .ten (omega arith)) (λ l. none-fails (outside s f t n) n (h .scoped (omega arith))) (λ l. none-fails (mistyped s f t n) n (h .typed (omega arith))) (λ l. rw (← b) (h .reading (omega arith))) (λ l. none-unless _ 0 (h .returning (omega arith)))
       q low (omega arith) high

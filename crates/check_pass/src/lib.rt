@@ -239,9 +239,9 @@ pub fn part_floor(
     if asked < 8 {
         return 7;
     }
-    if asked < 11 {
-        return check_rest::lower(check_rest::floor_from(file, f, part, n, &decls, 0), 10);
-    }
     let begun = VarSet::below(wide(params_of(file, f)));
-    floor(file, f, part, n, &decls, begun, codes, reads, sets)
+    check_rest::lower(
+        floor(file, f, part, n, &decls, begun, codes, reads, sets),
+        asked,
+    )
 }
