@@ -26,7 +26,7 @@ extern "C" {
 /* The version of the library, as CHANGELOG.md numbers it. */
 #define PANELRUE_VERSION_MAJOR 0
 #define PANELRUE_VERSION_MINOR 5
-#define PANELRUE_VERSION_PATCH 0
+#define PANELRUE_VERSION_PATCH 1
 #define PANELRUE_VERSION "0.5.1"
 
 /*
