@@ -2,15 +2,14 @@
 use mathlib.Core.Path.{_≡_, sym, _∙_}
 use mathlib.Core.Bool.{Bool, true, false, not}
 use mathlib.Core.List.{List}
-use Prim.Native.Nat.{ℕ, _+_, _*_, _%_, _≤_}
+use Prim.Native.Nat.{ℕ, _+_, _*_, _%_, _≤_, _<_}
 use native.Mathlib.Omega.{arith}
-use lib.Dec.{eqb, leb}
+use lib.Dec.{eqb}
 use lib.ListN.{length}
-use borrow.Author.Tests.{eqb-true, leb-true}
+use borrow.Author.Tests.{eqb-true, eq-eqb, ne-eqb, le-leb, lt-leb}
 use Rattle.records.specs.Fields.{functions, nodes}
 use Rattle.records.specs.Parts.{sumOf, Laid}
 use Rattle.records.specs.Search.{firstOf, shift, unless}
-use Rattle.records.proofs.Bools.{and-right}
 use Rattle.records.specs.declared.Found.{Found}
 use Rattle.records.specs.declared.Found.the-variants.{At, Nothing}
 use Rattle.spec_language.specs.Records.{lengthOk, headerOk, recordsOk, functionOk, sumOk, mainOk}
@@ -61,21 +60,29 @@ module _ (s : List ℕ) where
   unfolding checkOf questions firstRefusal refuse unless
   one-fails e = rw e
 
-  pub two-fails : lengthOk s ≡ true → headerOk s ≡ false → checkOf s ≡ refused 2 0 0
-  unfolding checkOf questions firstRefusal refuse unless
-  two-fails e g = rw (e, g)
-
-  pub three-fails : lengthOk s ≡ true → headerOk s ≡ true → recordsOk s ≡ false → checkOf s ≡ refused 3 0 0
-  unfolding checkOf questions firstRefusal refuse unless
-  three-fails e g h = rw (e, g, h)
-
-  pub three-passes : lengthOk s ≡ true → headerOk s ≡ true → recordsOk s ≡ true → checkOf s ≡ firstRefusal (fromFour s)
-  unfolding checkOf questions fromFour firstRefusal refuse unless
-  three-passes e g h = rw (e, g, h)
-
-  pub long-enough : lengthOk s ≡ true → 36 ≤ length s
+  pub not-twelves : (length s % 12 ≡ 0 → ⊥) → checkOf s ≡ refused 1 0 0
   unfolding lengthOk
-  long-enough e = leb-true 36 _ (and-right (eqb (length s % 12) 0) (leb 36 (length s)) e)
+  not-twelves n = one-fails (rw (ne-eqb _ 0 n))
+
+  pub too-short : length s % 12 ≡ 0 → length s < 36 → checkOf s ≡ refused 1 0 0
+  unfolding lengthOk
+  too-short e l = one-fails (rw (eq-eqb _ 0 e, lt-leb 36 _ l))
+
+  one-passes : length s % 12 ≡ 0 → 36 ≤ length s → lengthOk s ≡ true
+  unfolding lengthOk
+  one-passes e l = rw (eq-eqb _ 0 e, le-leb 36 _ l)
+
+  pub two-fails : length s % 12 ≡ 0 → 36 ≤ length s → headerOk s ≡ false → checkOf s ≡ refused 2 0 0
+  unfolding checkOf questions firstRefusal refuse unless
+  two-fails e l g = rw (one-passes e l, g)
+
+  pub three-fails : length s % 12 ≡ 0 → 36 ≤ length s → headerOk s ≡ true → recordsOk s ≡ false → checkOf s ≡ refused 3 0 0
+  unfolding checkOf questions firstRefusal refuse unless
+  three-fails e l g h = rw (one-passes e l, g, h)
+
+  pub three-passes : length s % 12 ≡ 0 → 36 ≤ length s → headerOk s ≡ true → recordsOk s ≡ true → checkOf s ≡ firstRefusal (fromFour s)
+  unfolding checkOf questions fromFour firstRefusal refuse unless
+  three-passes e l g h = rw (one-passes e l, g, h)
 
 -- the sum over as many functions as the header says
 pub sum-is : (s : List ℕ) {count : ℕ} {b : Bool} (r : Bool) → count ≡ functions s → r ≡ eqb (sumOf s count) (nodes s) → r ≡ b → sumOk s ≡ b

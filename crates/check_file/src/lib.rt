@@ -3,6 +3,7 @@ mod sizes;
 
 use records::Found;
 use records::count_of;
+use records::format::SHORTEST_FILE;
 use records::function_count;
 use records::shift_by;
 ghost use mathlib.Core.Path.{_≡_};
@@ -168,7 +169,15 @@ pub fn check(file: &[u8]) -> Answer
     ensures exact { λ r. ⌜ says r ≡ checkOf (now (file .entry)) ⌝ }
     ensures small { λ r. ⌜ Small r ⌝ }
 {
-    if !check_header::length_ok(file) {
+    let len = file.len();
+    if len % 12 != 0 {
+        return Answer::Refused(Refusal {
+            question: 1,
+            place: 0,
+            item: 0,
+        });
+    }
+    if len < SHORTEST_FILE {
         return Answer::Refused(Refusal {
             question: 1,
             place: 0,

@@ -1,10 +1,10 @@
-// Questions 1, 2, 3, 5 and 6: the length, the header, the number of records, the part counts and main.
+// Questions 2, 3, 5 and 6: the header, the number of records, the part counts and main; and 1 for files that are not long.
 use records::count_of;
 use records::format::HEADER_MARK;
 use records::format::LAST_EDITION;
 use records::format::MOST_FUNCTIONS;
 use records::format::MOST_NODES;
-use records::format::SHORTEST_FILE;
+use records::format::TOO_LONG;
 use records::function_count;
 use records::mark_at;
 use records::node_count;
@@ -12,6 +12,7 @@ use records::params_of;
 use records::result_of;
 use records::u32_at;
 ghost use mathlib.Core.Path.{_≡_};
+ghost use mathlib.Core.Bool.{true, false};
 ghost use Prim.Native.Nat.{_+_, _*_, _≤_, _<_};
 ghost use lib.Dec.{eqb};
 ghost use lib.ListN.{length};
@@ -20,12 +21,16 @@ ghost use Rattle.records.specs.Fields.{nodes};
 ghost use Rattle.records.specs.Parts.{sumOf};
 ghost use Rattle.spec_language.specs.Records.{lengthOk, headerOk, recordsOk, mainOk};
 
-// Whether the file is of whole records, and of three or more.
-pub fn length_ok(file: &[u8]) -> bool
-    ensures { λ r. ⌜ r ≡ lengthOk (now (file .entry)) ⌝ }
+// Whether a file of fewer than 65,536 bytes is not of whole records, or of fewer than three; of a longer one it is not said.
+pub fn is_cut(file: &[u8]) -> bool
+    ensures { λ r. ⌜ (r ≡ true → lengthOk (now (file .entry)) ≡ false) ⌝ }
 {
     let len = file.len();
-    (len % 12 == 0) & (SHORTEST_FILE <= len)
+    if TOO_LONG <= len {
+        return false;
+    }
+    let short = len as u32;
+    (short % 12 != 0) | (short < 36)
 }
 
 // Whether the header is right.

@@ -41,13 +41,13 @@ fn number(answer: Answer) -> u64
     }
 }
 
-// 0 where the file passes the check; else the question, 256 times the item and 65,536 times the place together. Question 1 is asked here too,
-// before the check makes room for its work.
+// 0 where the file passes the check; else the question, 256 times the item and 65,536 times the place together. Question 1 is asked here too
+// of files that are not long, before the check makes room for its work.
 #[no_mangle]
 pub extern "C" fn panelrue_check(file: &[u8]) -> u64
     ensures { λ r. ⌜ r ≡ packed (checkOf (now (file .entry))) ⌝ }
 {
-    if !check_header::length_ok(file) {
+    if check_header::is_cut(file) {
         return 1;
     }
     number(check_file::check(file))
