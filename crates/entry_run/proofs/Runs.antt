@@ -19,6 +19,7 @@ use Rattle.spec_answers.proofs.Questions.{memory-so}
 use Rattle.run_loop.specs.declared.Ran.{Ran}
 use Rattle.run_loop.specs.declared.Outcome.{Outcome}
 use Rattle.run_loop.specs.Runs.{HoldsFit, Ends}
+use Rattle.run_loop.proofs.Holding.{words-held}
 use Rattle.entry_run.specs.declared.Reply.the-variants.{Ended, Refused}
 use Rattle.entry_run.specs.Replies.{replyOf}
 
@@ -30,10 +31,7 @@ module _ (s m : List ℕ) (a : ℕ) where
   module _ (e : memoryAnswer s m ≡ accepted) where
     -- the memory holds a fit state
     pub run-held : HoldsFit s m
-    run-held =
-        let q = memory-so s m e in
-        let h = holds-fit (programOf s) m (q .2) in
-        record { passed = q .0; state = stateOf m; rest = drop size m; held = held-whole m (stateOf m) (h .0); fit = h .1 }
+    run-held = let q = memory-so s m e in words-held s m (q .0) (q .2)
 
     pub run-room : size ≤ length m
     run-room = memory-so s m e .1

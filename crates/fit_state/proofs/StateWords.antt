@@ -16,21 +16,11 @@ use Rattle.spec_machine.specs.Test.{isWord, allWords, framesInWords, controlInW
 use Rattle.spec_machine.proofs.KeepWords.{take-below, drop-below}
 use Rattle.spec_image.specs.Layout.{Activation, activation}
 use Rattle.spec_image.specs.Decode.{valueOf, valuesOf, refOf, operands, frames, frameOf, controlOf, activationOf, framesHeld, callersOf, runningOf, activationsIn, framesIn, states, stateOf}
+use Rattle.spec_image.proofs.BlockLengths.{every-take, getD-so}
 
 -- every word is below 2^32
 abbrev pub Small : List ℕ → Type 0
 Small l = (i : ℕ) → getD l i 0 < 2 ^ 32
-
--- what holds of every entry and of the default holds at any place
-getD-so : {E : Type 0} (Q : E → Type 0) (l : List E) (k : ℕ) (d : E) → Every Q l → Q d → Q (getD l k d)
-getD-so Q [] k d h q = q
-getD-so Q (x ∷ l) zero d h q = h .0
-getD-so Q (x ∷ l) (suc k) d h q = getD-so Q l k d (h .1) q
-
-every-take : {E : Type 0} (Q : E → Type 0) (k : ℕ) (l : List E) → Every Q l → Every Q (take k l)
-every-take Q zero l h = tt
-every-take Q (suc k) [] h = tt
-every-take Q (suc k) (x ∷ l) h = (h .0, every-take Q k l (h .1))
 
 every-entries : {E : Type 0} (Q : E → Type 0) (w : ℕ) (dec : List ℕ → E) → ((b : List ℕ) → Small b → Q (dec b))
     → (l : List ℕ) → Small l → (a n : ℕ) → Every Q (entries w dec l a n)

@@ -3,3 +3,4 @@ pub mod Reaching
 pub mod Starting
 pub mod Resuming
 pub mod Tags
+pub mod Holding

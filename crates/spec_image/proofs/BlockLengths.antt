@@ -83,3 +83,14 @@ activation-back (activation f k η) h =
 pub every-so : {E : Type 0} (P Q : E → Type 0) → ((f : E) → P f → Q f) → (K : List E) → Every P K → Every Q K
 every-so P Q h [] p = tt
 every-so P Q h (f ∷ K) p = (h f (p .0), every-so P Q h K (p .1))
+
+pub every-take : {E : Type 0} (P : E → Type 0) (n : ℕ) (K : List E) → Every P K → Every P (take n K)
+every-take P zero K h = tt
+every-take P (suc n) [] h = tt
+every-take P (suc n) (f ∷ K) h = (h .0, every-take P n K (h .1))
+
+-- what holds of every entry and of the default holds at any place
+pub getD-so : {E : Type 0} (P : E → Type 0) (K : List E) (n : ℕ) (d : E) → Every P K → P d → P (getD K n d)
+getD-so P [] n d h q = q
+getD-so P (f ∷ K) zero d h q = h .0
+getD-so P (f ∷ K) (suc n) d h q = getD-so P K n d (h .1) q

@@ -9,6 +9,7 @@ pub mod Variables
 pub mod Heads
 pub mod Calls
 pub mod Sized
+pub mod Words
 pub mod Memory
 pub mod Depth
 pub mod Samples

@@ -8,7 +8,7 @@ use Rattle.words.specs.Stacks.{Every}
 use Rattle.words.proofs.Stacks.{every-append}
 use Rattle.spec_language.specs.Check.{accepted, checkOf}
 use Rattle.spec_language.specs.Types as types
-use Rattle.spec_language.proofs.Accept.{accepted-is, function}
+use Rattle.spec_language.proofs.Accept.{accepted-is, function, parts}
 use Rattle.records.specs.Fields.{paramsOf, varsOf, countOf}
 use Rattle.records.specs.Parts.{partOf}
 use Rattle.spec_machine.specs.Values.{Ty, Value, typeV}
@@ -22,8 +22,10 @@ use Rattle.spec_machine.proofs.Nodes.{variables}
 use Rattle.spec_image.specs.Image.{savedActivations, savedFrames, activationsOf, framesOf}
 use Rattle.spec_image.specs.Narrow.{NarrowFrame, NarrowActivation, Narrow}
 
--- at most 8 parameters and 64 variables in a function
+-- at most 128 functions, and in a function at most 4,096 nodes, 8 parameters and 64 variables
 pub record Sized (P : Program) : Type 0 where
+  pub funs : P .funs ≤ 128
+  pub nodes : (f : ℕ) → HasFunction P f → P .nodes f ≤ 4096
   pub params : (f : ℕ) → HasFunction P f → length (P .fun f .params) ≤ 8
   pub vars : (f : ℕ) → HasFunction P f → length (varTypes (P .fun f)) ≤ 64
 
@@ -33,7 +35,7 @@ module _ (P : Program) (z : Sized P) where
   wants-few (fn g) k = z .params g k
 
   -- an operand is at hand, so at most 7 are in the frame
-  operands-few : (f : ℕ) (t : Ty) (h : Operation) (vs : List Value) (ns : List ℕ) → KnownOperation P h
+  pub operands-few : (f : ℕ) (t : Ty) (h : Operation) (vs : List Value) (ns : List ℕ) → KnownOperation P h
       → wants P h ≡ map typeV vs ++ (t ∷ map (typeN P f) ns) → length vs + length ns ≤ 7
   operands-few f t h vs ns k e =
       let n : length (wants P h) ≡ length vs + (1 + length ns)
@@ -67,7 +69,7 @@ module _ (P : Program) (z : Sized P) where
   gives-narrow f (eval n) K h = takes-narrow f (typeN P f n) K (h .2)
   gives-narrow f (exec r) K h = none-narrow f K (h .1)
 
-  held-few : (f : ℕ) (η : List Value) → HasFunction P f → AllHoldTyped η (varTypes (P .fun f)) → length η ≤ 64
+  pub held-few : (f : ℕ) (η : List Value) → HasFunction P f → AllHoldTyped η (varTypes (P .fun f)) → length η ≤ 64
   held-few f η k h = rw (holds-length η (varTypes (P .fun f)) h) (z .vars f k)
 
   callers-narrow : (f : ℕ) (A : List Saved) → Callers P f A → Every NarrowFrame (savedFrames A) × Every NarrowActivation (savedActivations A)
@@ -99,6 +101,8 @@ unfolding programOf
 file-sized s e =
     let h = accepted-is s e in
     record {
+      funs = parts s h .few;
+      nodes = parts s h .small;
       params = λ f l. unfold funOf in (rw (types-length (types.varType s f (partOf s f) (countOf s f)) (paramsOf s f) 0) (function s h f l .params));
       vars = λ f l. rw (variables s h f l, types-length (types.varType s f (partOf s f) (countOf s f)) (varsOf s f) 0) (function s h f l .vars);
     }
