@@ -1,0 +1,9 @@
+pub mod Changes
+pub mod Questions
+pub mod OneStep
+pub mod Before
+pub mod Bytes
+pub mod Records
+pub mod Logged
+pub mod AllBack
+pub mod Samples

@@ -1,0 +1,5 @@
+pub mod Changes
+pub mod Records
+pub mod Logged
+pub mod Answers
+pub mod Back

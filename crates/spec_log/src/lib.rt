@@ -1,0 +1,1 @@
+// Records of steps, logged runs and steps back, as definitions.
