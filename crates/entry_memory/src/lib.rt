@@ -29,7 +29,7 @@ pub enum Look {
 }
 
 // Whether the first 16,384 words hold the image of a state that is fit for the file's program.
-fn holds_fit(file: &[u8], m: &[u32]) -> bool
+pub fn holds_fit(file: &[u8], m: &[u32]) -> bool
     requires { ⌜ (checkOf (now file) ≡ accepted) × (size ≤ length (now m)) ⌝ }
     ensures { λ r. ⌜ r ≡ fitWords (programOf (now (file .entry))) (now (m .entry)) ⌝ }
 {

@@ -1,4 +1,6 @@
 // The entry points for a host in C or Rust, on numbers and slices.
+mod logs;
+
 use check_file::Answer;
 use check_file::Refusal;
 use entry_memory::Look;
