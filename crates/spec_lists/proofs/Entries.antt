@@ -1,4 +1,4 @@
--- What the four forms of call owe: a refusal leaves the memory, an accepted call does to the machine what its form says.
+-- What the six forms of call owe: a refusal leaves the memory, an accepted call does to the machine what its form says.
 use mathlib.Core.Path.{_≡_, refl, _∙_}
 use mathlib.Core.Bool.{true}
 use mathlib.Core.List.{List, [], _++_}
@@ -10,7 +10,7 @@ use Rattle.spec_language.specs.Check.{Verdict, accepted, refused, checkOf}
 use Rattle.spec_machine.specs.Values.{Value}
 use Rattle.spec_machine.specs.Machine.{State, main, emptyEnv}
 use Rattle.spec_machine.specs.Fit.{WithinLimits}
-use Rattle.spec_machine.specs.Run.{Ran, runOf, lookUp}
+use Rattle.spec_machine.specs.Run.{Ran, allHeld, runOf, lookUp}
 use Rattle.spec_machine.specs.File.{programOf}
 use Rattle.spec_machine.specs.Calls.{Machine}
 use Rattle.spec_machine.proofs.Calls.{At, Owes}
@@ -25,7 +25,13 @@ use Rattle.spec_image.proofs.Images.{image-length}
 use Rattle.spec_image.proofs.Sized.{file-sized, fit-narrow}
 use Rattle.spec_image.proofs.Memory.{held-length, held-state, whole-held}
 use Rattle.spec_answers.specs.Answers.{isPresent, valueOr, Result, granted, denied, byVerdict, written, startAnswer, startMemory, memoryAnswer, runFrom, runAnswer, runMemory, lookVerdict, lookAnswer}
-use Rattle.spec_lists.specs.Forms.{Given, Asking, CallKind, Input, givenOf, AnswerType, answerOf, memoryAfter, IsAccepted, IsGranted, Took, Does, form}
+use Rattle.spec_log.specs.Records.{lastBytes}
+use Rattle.spec_log.specs.Logged.{Logged, logOf}
+use Rattle.spec_log.specs.Answers.{logFrom, logAnswer, logMemory, backVerdict, backAnswer, backMemory}
+use Rattle.spec_log.proofs.Questions.{back-so}
+use Rattle.spec_log.proofs.Before.{stateBefore, back-before}
+use Rattle.spec_log.proofs.Logged.{Keeps, logs}
+use Rattle.spec_lists.specs.Forms.{Given, Asking, Logging, Returning, CallKind, Input, givenOf, AnswerType, answerOf, memoryAfter, IsAccepted, IsGranted, Took, Does, form}
 use Rattle.spec_lists.specs.Lists.{Image}
 use Rattle.spec_answers.proofs.Questions.{start-so, memory-so, look-so}
 
@@ -44,6 +50,8 @@ took? CallKind.start a = passed? a
 took? CallKind.run a = describes? a
 took? CallKind.memory a = passed? a
 took? CallKind.look a = describes? a
+took? CallKind.logged a = describes? a
+took? CallKind.back a = describes? a
 
 -- an answer that is no refusal is the one to an accepted verdict
 passed-is : (v : Verdict) → IsAccepted v → v ≡ accepted
@@ -67,11 +75,15 @@ not-granted accepted a n = n
 not-granted (refused q p x) a n = n
 
 pub refusal : (k : CallKind) (i : Input k) (m : List ℕ) → ¬ Took k (answerOf k i m) → memoryAfter k i m ≡ m
-unfolding startMemory runMemory runAnswer
+unfolding startMemory runMemory runAnswer logMemory logAnswer backMemory backAnswer
 refusal CallKind.start i m n = not-written (startAnswer (i .bytes) m) m (main emptyEnv) n
 refusal CallKind.run i m n = not-written (memoryAnswer (i .file .bytes) m) m _ (not-granted (memoryAnswer (i .file .bytes) m) (runFrom (i .file .bytes) m (i .number)) n)
 refusal CallKind.memory i m n = refl
 refusal CallKind.look i m n = refl
+refusal CallKind.logged i m n =
+    not-written (memoryAnswer (i .file .bytes) m) m _ (not-granted (memoryAnswer (i .file .bytes) m) (logFrom (i .file .bytes) m (i .number) (i .log) (i .used)) n)
+refusal CallKind.back i m n =
+    not-written (backVerdict (i .file .bytes) m (i .log) (i .used)) m _ (not-granted (backVerdict (i .file .bytes) m (i .log) (i .used)) (i .used - lastBytes (i .log) (i .used)) n)
 
 -- ---- accepted calls
 
@@ -135,12 +147,47 @@ module _ (M : List ℕ) where
       let b : lookAnswer s m (i .number) ≡ granted (valueOr (lookUp (σ .state) (i .number))) = rw (t, d) in
       (σ, (refl, record { value = valueOr (lookUp (σ .state) (i .number)); there = h; answer = b }), a)
 
+  logged-owes : (i : Logging) (m : List ℕ) (σ : Machine) → Between (i .file .bytes) m σ → memoryAnswer (i .file .bytes) m ≡ accepted → Owed CallKind.logged i m σ
+  unfolding logAnswer logMemory logFrom byVerdict written
+  logged-owes i m σ a t =
+      let s = i .file .bytes in
+      let c = memory-so s m t .0 in
+      let d = state-there (i .file) m σ c a in
+      let q : Logged = logOf (programOf s) (i .number) (σ .state) (i .log) (i .used) in
+      let g : Keeps (programOf s) (σ .state) (σ .history) (i .number) (i .log) (i .used) q
+      = logs (accepted-program s c) (file-words s (i .file .small)) (i .number) (σ .state) (σ .history) (i .log) (i .used) (a .fit) (a .same) in
+      let w : logMemory s m (i .number) (i .log) (i .used) ≡ image (q .state) ++ drop size m = rw (t, d) in
+      let b : logAnswer s m (i .number) (i .log) (i .used) ≡ granted q = rw (t, d) in (
+        record { state = q .state; history = g .history },
+        record { stop = q .stop; steps = q .steps; log = q .log; used = q .used; answer = b; logs = g .logs },
+        record { image = rw w (rewritten m (σ .state) (q .state) (a .fit .within) (g .fit .within) (a .image)); fit = g .fit; same = g .same },
+      )
+
+  back-owes : (i : Returning) (m : List ℕ) (σ : Machine) → Between (i .file .bytes) m σ → backVerdict (i .file .bytes) m (i .log) (i .used) ≡ accepted → Owed CallKind.back i m σ
+  unfolding backAnswer backMemory byVerdict written
+  back-owes i m σ a t =
+      let s = i .file .bytes in
+      let P = programOf s in
+      let d = state-there (i .file) m σ (memory-so s m (back-so s m (i .log) (i .used) t .0) .0) a in
+      let b = back-before s m (i .log) (i .used) (i .file .small) t in
+      let u : State = stateBefore P m (i .log) (i .used) in
+      let w : backMemory s m (i .log) (i .used) ≡ image u ++ drop size m = rw t in
+      let v : backAnswer s m (i .log) (i .used) ≡ granted (i .used - lastBytes (i .log) (i .used)) = rw t in (
+        record { state = u; history = allHeld u },
+        record { used = i .used - lastBytes (i .log) (i .used); answer = v; fit = b .fit; rule = b .rule; event = b .event; step = rw d at (b .step); same = refl },
+        record { image = rw w (rewritten m (σ .state) u (a .fit .within) (b .fit .within) (a .image)); fit = b .fit; same = refl },
+      )
+
   pub owes : (k : CallKind) (i : Input k) (m : List ℕ) (σ : Machine) → Between (givenOf k i .bytes) m σ → Took k (answerOf k i m) → Owed k i m σ
-  unfolding runAnswer lookAnswer
+  unfolding runAnswer lookAnswer logAnswer backAnswer
   owes CallKind.start i m σ a t = start-owes i m σ a (passed-is (startAnswer (i .bytes) m) t)
   owes CallKind.run i m σ a t = run-owes i m σ a (describes-is (memoryAnswer (i .file .bytes) m) (runFrom (i .file .bytes) m (i .number)) t)
   owes CallKind.memory i m σ a t = (σ, refl, a)
   owes CallKind.look i m σ a t = look-owes i m σ a (describes-is (lookVerdict (i .file .bytes) m (i .number)) (valueOr (lookUp (stateOf m) (i .number))) t)
+  owes CallKind.logged i m σ a t =
+      logged-owes i m σ a (describes-is (memoryAnswer (i .file .bytes) m) (logFrom (i .file .bytes) m (i .number) (i .log) (i .used)) t)
+  owes CallKind.back i m σ a t =
+      back-owes i m σ a (describes-is (backVerdict (i .file .bytes) m (i .log) (i .used)) (i .used - lastBytes (i .log) (i .used)) t)
 
   -- what each form owes in a list begun from M
   abbrev pub owing : (k : CallKind) → Owes (List ℕ) Given (List ℕ) (λ e. e .bytes) programOf (Image M) (form k)

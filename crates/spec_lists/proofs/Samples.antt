@@ -5,7 +5,7 @@ use mathlib.Core.List.{List, [], _∷_, _++_}
 use Prim.Native.Nat.{ℕ, zero, suc, _<_}
 use native.Mathlib.Omega.{arith}
 use lib.Dec.{ltb}
-use lib.ListN.{getD, replicate}
+use lib.ListN.{getD, take, drop, replicate}
 use borrow.Author.Tests.{ltb-true}
 use Rattle.records.proofs.Bools.{and-left, and-right}
 use Rattle.varset.specs.Lowest.{lowest}
@@ -30,17 +30,23 @@ use Rattle.spec_language.specs.Nodes.{fieldsOk, nodeOk, sizeOk, wrongChild, mis
 use Rattle.spec_language.specs.Check.{accepted, refused, originOf, inPart, partQuestions, questions, refuse, firstRefusal, checkOf}
 use Rattle.arith.specs.Int as ints
 use Rattle.arith.specs.Operators as operators
-use Rattle.spec_machine.specs.Values.{int, result}
+use Rattle.spec_machine.specs.Values.{nothing, int, result}
 use Rattle.spec_machine.specs.Program.{Ref, node}
 use Rattle.spec_machine.specs.Machine as machine
-use Rattle.spec_machine.specs.Machine.{wait, exec, emptyEnv, State, main, running}
+use Rattle.spec_machine.specs.Machine.{Frame, wait, val, exec, emptyEnv, State, main, running}
 use Rattle.spec_machine.specs.Run.{Outcome, raised, Spent, runOf}
 use Rattle.spec_machine.specs.File.{backwards, kids, andForm, looks, lookAt, refAt, formOf, formAt, ifForm, seqForm, seeAt, unrolled, looped, stmtAt, typesFrom, funOf, programOf}
 use Rattle.spec_image.specs.Layout.{filled, bit, valueWords, valuesWords, nodesWords, refWord, block, gathering, frameWords, controlWords, activationWords}
 use Rattle.spec_image.specs.Image.{savedActivations, savedFrames, headWords, activationsOf, framesOf, image}
 use Rattle.spec_image.specs.Decode.{valueOf, valuesOf, nodesOf, refOf, operands, frames, frameOf, controlOf, activationOf, framesHeld, callersOf, runningOf, activationsIn, framesIn, states, stateOf}
+use Rattle.spec_image.specs.Sizes.{size}
 use Rattle.spec_image.specs.Memory.{fitWords}
 use Rattle.spec_answers.specs.Answers.{roomFor, imageIn, variableIn, startAnswer, memoryAnswer, lookVerdict, granted, denied, byVerdict, written, startMemory, runFrom, runAnswer, runMemory, lookAnswer}
+use Rattle.spec_log.specs.Changes.{change}
+use Rattle.spec_log.specs.Records.{bytesOf, changeBytes, wordBytes, recordOf, changesAt, wordsAt, lastNumber, lastBytes, hasRecord, earlier}
+use Rattle.spec_log.specs.Logged.{ends, LogFull, logOf}
+use Rattle.spec_log.specs.Answers.{logFrom, logAnswer, logMemory, leadsTo, wordsBefore, backTo, recordIn, backVerdict, backAnswer, backMemory}
+use Rattle.spec_log.proofs.Samples.{recordWith}
 use Rattle.spec_lists.specs.Forms.{Given, CallKind}
 use Rattle.spec_lists.specs.Lists.{by-start, AnyCall, StoryOf}
 use Rattle.spec_lists.proofs.Lists.{whole-lists}
@@ -56,19 +62,60 @@ dirty = replicate 16385 7
 abbrev begun : List ℕ
 begun = startMemory file dirty
 
--- start, a run of five steps, look-ups, a run with no file, a run to the end, a look-up after it; memory checks and a second start
+-- a state in such a memory, and the states after three, four and five steps
+abbrev holding : State → List ℕ
+holding s = image s ++ drop size dirty
+
+abbrev third : State
+third = running (exec (node 1)) emptyEnv 0 (nothing ∷ []) (wait (node 3) ∷ []) []
+
+abbrev fourth : State
+fourth = running (val (int 5)) emptyEnv 0 (nothing ∷ []) (Frame.store 0 ∷ wait (node 3) ∷ []) []
+
+abbrev fifth : State
+fifth = running (exec Ref.nop) emptyEnv 0 (int 5 ∷ []) (wait (node 3) ∷ []) []
+
+-- a log, the record of the fourth step, and the log with the records of five steps after its first three bytes
+abbrev log : List ℕ
+log = replicate 200 255
+
+abbrev fourthStep : List ℕ
+fourthStep = recordWith (change 3 5 ∷ change 4 4 ∷ change 129 1 ∷ change 4500 0 ∷ [])
+
+abbrev fiveSteps : List ℕ
+fiveSteps =
+    take 3 log
+    ++ (recordWith (change 0 1 ∷ change 2 0 ∷ change 3 0 ∷ change 4 0 ∷ change 130 0 ∷ [])
+    ++ (recordWith (change 4 16 ∷ [])
+    ++ (recordWith (change 4 13 ∷ change 129 0 ∷ change 4480 0 ∷ change 4481 0 ∷ [])
+    ++ (fourthStep
+    ++ (recordWith (change 3 2 ∷ change 4 5 ∷ change 129 2 ∷ change 136 0 ∷ change 137 0 ∷ change 4500 5 ∷ []) ++ drop 143 log)))))
+
+-- start, a run of five steps, look-ups, a run with no file, a run to the end, a look-up after it; memory checks and a second start;
+-- five logged steps, two steps back, a look-up of what is held there, a step back by an empty log, a logged run with one byte too few
 sample-list : (startAnswer file dirty ≡ accepted)
-    × (runAnswer file begun 5 ≡ granted (record { outcome = Spent; steps = 5; state = running (exec Ref.nop) emptyEnv 0 (int 5 ∷ []) (wait (node 3) ∷ []) [] }))
-    × (lookAnswer file (runMemory file begun 5) 0 ≡ granted (int 5))
-    × (lookAnswer file (runMemory file begun 5) 1 ≡ denied 17 0 0)
-    × (runAnswer [] (runMemory file begun 5) 9 ≡ denied 1 0 0)
-    × (runAnswer file (runMemory file begun 5) 9 ≡ granted (record { outcome = Outcome.value 5; steps = 5; state = State.value 5 }))
-    × (lookAnswer file (runMemory file (runMemory file begun 5) 9) 0 ≡ denied 17 0 0)
+    × (runAnswer file begun 5 ≡ granted (record { outcome = Spent; steps = 5; state = fifth }))
+    × (runMemory file begun 5 ≡ holding fifth)
+    × (lookAnswer file (holding fifth) 0 ≡ granted (int 5))
+    × (lookAnswer file (holding fifth) 1 ≡ denied 17 0 0)
+    × (runAnswer [] (holding fifth) 9 ≡ denied 1 0 0)
+    × (runAnswer file (holding fifth) 9 ≡ granted (record { outcome = Outcome.value 5; steps = 5; state = State.value 5 }))
+    × (lookAnswer file (runMemory file (holding fifth) 9) 0 ≡ denied 17 0 0)
     × (memoryAnswer file dirty ≡ refused 16 0 0)
-    × (memoryAnswer file (runMemory file begun 5) ≡ accepted)
-    × (startAnswer file (runMemory file begun 5) ≡ accepted)
-unfolding lowest sets.has sets.none sets.with without both either less below u16At u32At markAt functions nodes editionOf resultOf paramsOf varsOf maskOf countOf kindAt aAt bAt sizeAt sumOf startOf partOf firstOf shift orElse firstIn unless arities arityOf arityAt walk children differ isExpression wantsExpression wrongSort prior last shapes shapeAt readsFrom readsOf grow statementIn statementAt declares leaves missing lacks returns declaresAt declCount declOf under usesVariable paramType varType operatorType typesOf typeAt condition wantsOf wantAt suits agree records.within lengthOk headerOk recordsOk functionOk sumOk mainOk nodes.fields fieldsOk nodeOk nodes.total sizeOk wrongChild nodes.some misplaced undeclared firstUndeclared outside mistyped answers originOf inPart partQuestions questions refuse firstRefusal checkOf ints.int ints.wrap operators.addOf operators.subOf operators.mulOf operators.quotOf operators.remOf operators.shlOf operators.shrOf operators.andOf operators.orOf operators.xorOf operators.ltOf operators.leOf operators.gtOf operators.geOf operators.eqOf operators.neOf operators.noQuotient operators.divided operators.noShift operators.shifted operators.results operators.applied backwards kids andForm looks lookAt refAt formOf formAt ifForm seqForm seeAt unrolled looped stmtAt typesFrom funOf programOf result runOf filled bit valueWords valuesWords nodesWords refWord block gathering frameWords controlWords activationWords savedActivations savedFrames headWords activationsOf framesOf image valueOf valuesOf nodesOf refOf operands frames frameOf controlOf activationOf framesHeld callersOf runningOf activationsIn framesIn states stateOf fitWords roomFor imageIn variableIn startAnswer memoryAnswer lookVerdict byVerdict written startMemory runFrom runAnswer runMemory lookAnswer
-sample-list = (refl, refl, refl, refl, refl, refl, refl, refl, refl, refl)
+    × (memoryAnswer file (holding fifth) ≡ accepted)
+    × (startAnswer file (holding fifth) ≡ accepted)
+    × (logAnswer file begun 5 log 3 ≡ granted (record { stop = ends Spent; steps = 5; state = fifth; log = fiveSteps; used = 143 }))
+    × (logMemory file begun 5 log 3 ≡ runMemory file begun 5)
+    × (backAnswer file (holding fifth) fiveSteps 143 ≡ granted 103)
+    × (backMemory file (holding fifth) fiveSteps 143 ≡ holding fourth)
+    × (backAnswer file (holding fourth) fiveSteps 103 ≡ granted 75)
+    × (backMemory file (holding fourth) fiveSteps 103 ≡ holding third)
+    × (lookAnswer file (holding third) 0 ≡ granted nothing)
+    × (backAnswer file (holding third) [] 0 ≡ denied 18 0 0)
+    × (logAnswer file (holding third) 9 (replicate 67 0) 0 ≡ granted (record { stop = LogFull; steps = 1; state = fourth; log = fourthStep ++ replicate 39 0; used = 28 }))
+    × (logMemory file (holding third) 9 (replicate 67 0) 0 ≡ holding fourth)
+unfolding lowest sets.has sets.none sets.with without both either less below u16At u32At markAt functions nodes editionOf resultOf paramsOf varsOf maskOf countOf kindAt aAt bAt sizeAt sumOf startOf partOf firstOf shift orElse firstIn unless arities arityOf arityAt walk children differ isExpression wantsExpression wrongSort prior last shapes shapeAt readsFrom readsOf grow statementIn statementAt declares leaves missing lacks returns declaresAt declCount declOf under usesVariable paramType varType operatorType typesOf typeAt condition wantsOf wantAt suits agree records.within lengthOk headerOk recordsOk functionOk sumOk mainOk nodes.fields fieldsOk nodeOk nodes.total sizeOk wrongChild nodes.some misplaced undeclared firstUndeclared outside mistyped answers originOf inPart partQuestions questions refuse firstRefusal checkOf ints.int ints.wrap operators.addOf operators.subOf operators.mulOf operators.quotOf operators.remOf operators.shlOf operators.shrOf operators.andOf operators.orOf operators.xorOf operators.ltOf operators.leOf operators.gtOf operators.geOf operators.eqOf operators.neOf operators.noQuotient operators.divided operators.noShift operators.shifted operators.results operators.applied backwards kids andForm looks lookAt refAt formOf formAt ifForm seqForm seeAt unrolled looped stmtAt typesFrom funOf programOf result runOf filled bit valueWords valuesWords nodesWords refWord block gathering frameWords controlWords activationWords savedActivations savedFrames headWords activationsOf framesOf image valueOf valuesOf nodesOf refOf operands frames frameOf controlOf activationOf framesHeld callersOf runningOf activationsIn framesIn states stateOf fitWords roomFor imageIn variableIn startAnswer memoryAnswer lookVerdict byVerdict written startMemory runFrom runAnswer runMemory lookAnswer bytesOf changeBytes wordBytes recordOf changesAt wordsAt lastNumber lastBytes hasRecord earlier logOf logFrom logAnswer logMemory leadsTo wordsBefore backTo recordIn backVerdict backAnswer backMemory
+sample-list = (refl, refl, refl, refl, refl, refl, refl, refl, refl, refl, refl, refl, refl, refl, refl, refl, refl, refl, refl, refl, refl)
 
 -- decl#7(0, int, seq#6(assign#1(0, 32#0), return#5(1#2 <<#4 x0#3))) in an edition
 abbrev shifts : ℕ → List ℕ
@@ -123,6 +170,23 @@ calls =
 sample-story : StoryOf begun calls bytes (record { state = main emptyEnv; history = [] })
 unfolding unless lengthOk questions refuse firstRefusal memoryAnswer byVerdict runAnswer
 sample-story = whole-lists bytes (record { state = main emptyEnv; history = [] }) begun (by-start dirty (sample-list .0)) calls ((λ t. refl), ((λ t. refl), ((λ t. absurd t), ((λ t. refl), ((λ t. refl), tt)))))
+
+-- five logged steps, a look-up, two steps back, a look-up, a step back by an empty log, a logged run that a full log stops and a memory check: the same theorem
+abbrev back-calls : List AnyCall
+back-calls =
+    record { kind = CallKind.logged; given = record { file = bytes; number = 5; log = log; used = 3 } }
+    ∷ record { kind = CallKind.look; given = record { file = bytes; number = 0 } }
+    ∷ record { kind = CallKind.back; given = record { file = bytes; log = fiveSteps; used = 143 } }
+    ∷ record { kind = CallKind.back; given = record { file = bytes; log = fiveSteps; used = 103 } }
+    ∷ record { kind = CallKind.look; given = record { file = bytes; number = 0 } }
+    ∷ record { kind = CallKind.back; given = record { file = bytes; log = []; used = 0 } }
+    ∷ record { kind = CallKind.logged; given = record { file = bytes; number = 9; log = replicate 67 0; used = 0 } }
+    ∷ record { kind = CallKind.memory; given = bytes } ∷ []
+
+back-story : StoryOf begun back-calls bytes (record { state = main emptyEnv; history = [] })
+back-story =
+    whole-lists bytes (record { state = main emptyEnv; history = [] }) begun (by-start dirty (sample-list .0)) back-calls
+    ((λ t. refl), ((λ t. refl), ((λ t. refl), ((λ t. refl), ((λ t. refl), ((λ t. refl), ((λ t. refl), ((λ t. refl), tt))))))))
 
 -- a run to the shift, a look-up, a run with no file, a run that raises arith and a memory check, on a file of edition 1: the same theorem
 abbrev edition-calls : List AnyCall

@@ -43,7 +43,7 @@ pub record Last (M : List ℕ) (e : Given) (m : List ℕ) (σ : Machine) : Type 
   pub checked : memoryAnswer (e .bytes) m ≡ accepted
   pub held : Image M (σ .state) m
 
--- a call of one of the four forms
+-- a call of one of the six forms
 abbrev pub AnyCall : Type 0
 AnyCall = Call (List ℕ) Given (List ℕ) (λ e. e .bytes) CallKind form
 
