@@ -3,7 +3,7 @@
  */
 #include "panelrue_text.h"
 
-static const char *const outcomes[] = {"value", "arith", "abort", "Spent", "Full"};
+static const char *const outcomes[] = {"value", "arith", "abort", "Spent", "Full", "Log full"};
 
 static const char *const types[] = {"nothing", "int", "bool"};
 
@@ -27,6 +27,7 @@ static const char *const questions[] = {
     "Is the memory large enough?",
     "Is the memory of a run of this procedure?",
     "Is there such a variable now?",
+    "Does the log lead back to a state before this one?",
 };
 
 #define COUNT(texts) (sizeof(texts) / sizeof(texts)[0])

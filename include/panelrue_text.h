@@ -16,13 +16,13 @@ extern "C" {
 /* PANELRUE_VERSION of the header that these functions were compiled with. */
 const char *panelrue_version(void);
 
-/* How a run stopped: "value", "arith", "abort", "Spent" or "Full"; else "unknown outcome". */
+/* How a run stopped: "value", "arith", "abort", "Spent", "Full" or "Log full"; else "unknown outcome". */
 const char *panelrue_outcome_name(uint64_t outcome);
 
 /* What a variable holds: "nothing", "int" or "bool"; else "unknown type". */
 const char *panelrue_type_name(uint64_t type);
 
-/* The question of a refusal, 1 to 17, as docs/QUESTIONS.md asks it; 0 is "No question refused it.", else "Unknown question." */
+/* The question of a refusal, 1 to 18, as docs/QUESTIONS.md asks it; 0 is "No question refused it.", else "Unknown question." */
 const char *panelrue_question_text(unsigned question);
 
 #ifdef __cplusplus

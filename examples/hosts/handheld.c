@@ -2,11 +2,20 @@
  * A host that runs a procedure 100 steps at a time, each time in a process of its own, with the memory kept in a file between them.
  *
  *   handheld start FILE MEMORY            starts the procedure and stores the memory
- *   handheld go FILE MEMORY               loads the memory, checks it, takes at most 100 steps and stores it again
+ *   handheld go FILE MEMORY [LOG]         loads the memory, checks it, takes at most 100 steps and stores it again
+ *   handheld back FILE MEMORY LOG         loads the memory and the log, takes one logged step back and stores both again
  *   handheld look FILE MEMORY VARIABLE    loads the memory and shows what a variable of the running function holds
  *
  * It prints one line, and its exit status says what came of it: 0 done or ended, 1 goes on, 2 no room, 3 refused, 4 trouble with the
  * command or a file. The stored memory is 16,384 words, low byte first; it is replaced as a whole or left as it was.
+ *
+ * Where a log is named, each step has a record in it. Its file has the records alone, at most 1 MiB of them, and need not be there before
+ * the first. Where the next record has no room, the line says "Log full" with the steps taken until then: go on without the log, or with
+ * the name of a new one.
+ *
+ * Memory and log are two files, so the power may fail between the two stores. The order is such that no record is lost then: `go` stores
+ * the log first, and `back` the memory. What can be left is a log with records at its end of steps that the memory has not taken; a step
+ * back by such a record is refused by question 18 and changes nothing, since it does not lead to this memory.
  */
 #define _POSIX_C_SOURCE 200112L
 
@@ -37,6 +46,13 @@ static size_t words;
 
 /* The bytes of the memory's file, with room to see that there are too many. */
 static uint8_t bytes[STORED + 1];
+
+/* The most bytes of a log. */
+#define LOG_ROOM 1048576u
+
+/* The log, with room to see that its file has too many bytes, and its used length, which is all that is stored. */
+static uint8_t records[LOG_ROOM + 1];
+static uint64_t used;
 
 /* Says what is wrong with a file. */
 static enum status trouble(const char *name, const char *reason)
@@ -88,33 +104,52 @@ static enum status load_memory(const char *name)
     return DONE;
 }
 
-/* Writes the bytes of the memory into an open file and closes it; 0 unless all of them have reached it. */
-static int write_all(FILE *to)
+/* Reads the log's file; one that is not there is a log without records. */
+static enum status load_log(const char *name)
 {
-    int written = fwrite(bytes, 1, STORED, to) == STORED && fflush(to) == 0 && fsync(fileno(to)) == 0;
+    size_t got = 0;
+    enum status status = DONE;
+    if (access(name, F_OK) == 0 || errno != ENOENT)
+        status = load(name, records, sizeof records, &got);
+    if (status == DONE && got > LOG_ROOM)
+        return trouble(name, "is longer than a log");
+    used = got;
+    return status;
+}
+
+/* Writes bytes into an open file and closes it; 0 unless all of them have reached it. */
+static int write_all(FILE *to, const uint8_t *from, size_t count)
+{
+    int written = fwrite(from, 1, count, to) == count && fflush(to) == 0 && fsync(fileno(to)) == 0;
     return fclose(to) == 0 && written;
 }
 
-/* Stores the memory in a file beside the old one and then puts it in its place, so that one of the two is always whole. */
-static enum status store_memory(const char *name)
+/* Stores bytes in a file beside the old one and then puts it in its place, so that one of the two is always whole. */
+static enum status store(const char *name, const uint8_t *from, size_t count)
 {
     char beside[4096];
     FILE *to;
-    size_t i;
     int made = snprintf(beside, sizeof beside, "%s.new", name);
     if (made < 0 || (size_t)made >= sizeof beside)
         return trouble(name, "has too long a name");
-    for (i = 0; i < STORED; i++)
-        bytes[i] = (uint8_t)(memory[i / 4] >> 8 * (i % 4));
     to = fopen(beside, "wb");
     if (to == NULL)
         return trouble(beside, strerror(errno));
-    if (!write_all(to) || rename(beside, name) != 0) {
+    if (!write_all(to, from, count) || rename(beside, name) != 0) {
         enum status status = trouble(name, strerror(errno));
         remove(beside);
         return status;
     }
     return DONE;
+}
+
+/* Stores the memory. */
+static enum status store_memory(const char *name)
+{
+    size_t i;
+    for (i = 0; i < STORED; i++)
+        bytes[i] = (uint8_t)(memory[i / 4] >> 8 * (i % 4));
+    return store(name, bytes, STORED);
 }
 
 /* Starts the procedure in memory of any content. */
@@ -139,7 +174,7 @@ static enum status ended(const uint64_t *answer)
     printf(" steps %llu\n", (unsigned long long)answer[2]);
     if (answer[0] == PANELRUE_SPENT)
         return GOES_ON;
-    return answer[0] == PANELRUE_FULL ? NO_ROOM : DONE;
+    return answer[0] == PANELRUE_FULL || answer[0] == PANELRUE_LOG_FULL ? NO_ROOM : DONE;
 }
 
 /* Checks the loaded memory, goes on from it and stores it again. */
@@ -158,6 +193,48 @@ static enum status go(const char *name)
         return refused(number);
     status = store_memory(name);
     return status == DONE ? ended(answer) : status;
+}
+
+/* The same with a log, which is stored first, so that it has a record of every step that the stored memory has taken. */
+static enum status go_logged(const char *name, const char *log)
+{
+    uint64_t answer[PANELRUE_RUN_LOGGED_ROOM];
+    enum status status = load_memory(name);
+    uint64_t number;
+    if (status == DONE)
+        status = load_log(log);
+    if (status != DONE)
+        return status;
+    number = panelrue_run_logged(file, length, memory, words, TURN, records, LOG_ROOM, used, answer, PANELRUE_RUN_LOGGED_ROOM);
+    if (number != 0)
+        return refused(number);
+    used = answer[3];
+    status = store(log, records, (size_t)used);
+    if (status == DONE)
+        status = store_memory(name);
+    return status == DONE ? ended(answer) : status;
+}
+
+/* Takes one step back; the memory is stored first, so that the record is kept until it has been used. */
+static enum status back(const char *name, const char *log)
+{
+    uint64_t answer[PANELRUE_BACK_ROOM];
+    enum status status = load_memory(name);
+    uint64_t number;
+    if (status == DONE)
+        status = load_log(log);
+    if (status != DONE)
+        return status;
+    number = panelrue_step_back(file, length, memory, words, records, LOG_ROOM, used, answer, PANELRUE_BACK_ROOM);
+    if (number != 0)
+        return refused(number);
+    used = answer[0];
+    status = store_memory(name);
+    if (status == DONE)
+        status = store(log, records, (size_t)used);
+    if (status == DONE)
+        printf("back, log of %llu bytes\n", (unsigned long long)used);
+    return status;
 }
 
 /* Shows a variable of the function that is running. */
@@ -184,23 +261,30 @@ static enum status look(const char *name, const char *variable)
     return DONE;
 }
 
+/* Whether the command is this one, with so many words. */
+static int is(const char *name, int words_wanted, int count, char **argument)
+{
+    return count == words_wanted && strcmp(argument[1], name) == 0;
+}
+
 /* Loads the procedure and does what the command says. */
 static enum status command(int count, char **argument)
 {
-    int is_look = count == 5 && strcmp(argument[1], "look") == 0;
-    int is_start = count == 4 && strcmp(argument[1], "start") == 0;
-    int is_go = count == 4 && strcmp(argument[1], "go") == 0;
+    int is_start = is("start", 4, count, argument), is_go = is("go", 4, count, argument);
+    int is_logged = is("go", 5, count, argument), is_back = is("back", 5, count, argument);
     enum status status;
-    if (!is_start && !is_go && !is_look) {
-        fputs("handheld start FILE MEMORY | go FILE MEMORY | look FILE MEMORY VARIABLE\n", stderr);
+    if (!is_start && !is_go && !is_logged && !is_back && !is("look", 5, count, argument)) {
+        fputs("handheld start FILE MEMORY | go FILE MEMORY [LOG] | back FILE MEMORY LOG | look FILE MEMORY VARIABLE\n", stderr);
         return TROUBLE;
     }
     status = load(argument[2], file, sizeof file, &length);
     if (status != DONE)
         return status;
-    if (is_look)
-        return look(argument[3], argument[4]);
-    return is_start ? start(argument[3]) : go(argument[3]);
+    if (is_start || is_go)
+        return is_start ? start(argument[3]) : go(argument[3]);
+    if (is_logged || is_back)
+        return is_logged ? go_logged(argument[3], argument[4]) : back(argument[3], argument[4]);
+    return look(argument[3], argument[4]);
 }
 
 /* Ends with the command's status. */

@@ -1,6 +1,6 @@
 /*
  * Puts each procedure of the input through a fixed list of calls and prints of each call the number, the answer and a sum of all words
- * of the memory; it runs alike on every processor.
+ * of the memory and all bytes of the log; it runs alike on every processor.
  *
  * The input is two numbers, a call and a part whose lowest bit is turned in what is printed of that call (call 0: of none), and then for
  * each procedure its length and its bytes. Numbers have four bytes, the low one first. A line has the call's number, its name, what it
@@ -12,13 +12,17 @@
 #define LENT (PANELRUE_WORDS + 16u)
 #define ANSWERS 4u
 
+/* The bytes of the log, of which the last ones are never lent. */
+#define RECORDS 2016u
+#define LOG (RECORDS - 16u)
+
 static uint8_t file[65536];
 static uint32_t length;
 static uint32_t memory[LENT], kept[LENT];
 static uint64_t answer[ANSWERS];
+static uint8_t records[RECORDS];
+static uint64_t used;
 static uint32_t packed[PANELRUE_WORDS], unpacked[PANELRUE_WORDS];
-static uint8_t line[256];
-static unsigned at;
 static uint32_t calls, turned_call, turned_part;
 static uint64_t state;
 
@@ -29,42 +33,20 @@ static uint32_t noise(void)
     return (uint32_t)(state >> 32);
 }
 
-static void put(const char *text)
-{
-    while (*text != '\0')
-        line[at++] = (uint8_t)*text++;
-}
-
-static void put_number(uint64_t number)
-{
-    int shift = 60;
-    line[at++] = ' ';
-    while (shift > 0 && number >> shift == 0)
-        shift -= 4;
-    for (; shift >= 0; shift -= 4)
-        line[at++] = (uint8_t)"0123456789abcdef"[number >> shift & 15];
-}
-
-static void end_line(void)
-{
-    line[at++] = '\n';
-    port_write(line, at);
-    at = 0;
-}
-
-/* Two sums of all words lent: words that differ in one place alone differ in both. */
+/* Two sums of all words and bytes lent: what differs in one place alone differs in both. */
 static uint64_t sum(void)
 {
     uint32_t first = 2166136261u, second = 0;
     unsigned i;
-    for (i = 0; i < LENT; i++) {
-        first = (first ^ memory[i]) * 16777619u;
-        second = (second + memory[i]) * 2246822519u;
+    for (i = 0; i < LENT + RECORDS; i++) {
+        uint32_t word = i < LENT ? memory[i] : records[i - LENT];
+        first = (first ^ word) * 16777619u;
+        second = (second + word) * 2246822519u;
     }
     return (uint64_t)first << 32 | second;
 }
 
-/* Turns a bit of the part that the input names: a word of the memory, then one of the answer, then the number. */
+/* Turns a bit of the part that the input names: a word of the memory, then one of the answer, then a byte of the log, then the number. */
 static void turn(uint64_t *number)
 {
     if (calls != turned_call)
@@ -73,6 +55,8 @@ static void turn(uint64_t *number)
         memory[turned_part] ^= 1;
     else if (turned_part < LENT + ANSWERS)
         answer[turned_part - LENT] ^= 1;
+    else if (turned_part < LENT + ANSWERS + RECORDS)
+        records[turned_part - LENT - ANSWERS] ^= 1;
     else
         *number ^= 1;
 }
@@ -83,34 +67,34 @@ static void tell(const char *name, uint64_t number)
     unsigned i;
     calls++;
     turn(&number);
-    put_number(calls);
-    put(" ");
-    put(name);
-    put_number(number);
+    port_put_number(calls);
+    port_put(" ");
+    port_put(name);
+    port_put_number(number);
     for (i = 0; i < ANSWERS; i++)
-        put_number(answer[i]);
-    put_number(sum());
+        port_put_number(answer[i]);
+    port_put_number(sum());
     turn(&number);
 }
 
 static void told(const char *name, uint64_t number)
 {
     tell(name, number);
-    end_line();
+    port_end_line();
 }
 
 /* Packs the image and prints how many words that takes; says so where it is not the same when it is unpacked. */
 static void tell_packed(void)
 {
     unsigned i, count = port_pack(memory, packed, PANELRUE_WORDS);
-    put(" packed");
-    put_number(count);
+    port_put(" packed");
+    port_put_number(count);
     if (count == 0 || !port_unpack(packed, count, unpacked))
-        put(" LOST");
+        port_put(" LOST");
     for (i = 0; i < PANELRUE_WORDS; i++)
         if (memory[i] != unpacked[i]) {
-            put(" LOST");
-            put_number(i);
+            port_put(" LOST");
+            port_put_number(i);
             break;
         }
 }
@@ -121,7 +105,7 @@ static void tell_image(const char *name, uint64_t number)
     tell(name, number);
     if (number == 0)
         tell_packed();
-    end_line();
+    port_end_line();
 }
 
 static void fill_answer(void)
@@ -177,6 +161,58 @@ static void restore(void)
         memory[i] = kept[i];
 }
 
+/* A logged run, and the used length that it answers, where it does. */
+static void run_logged(uint64_t allowance, panelrue_size log_length, panelrue_size room)
+{
+    uint64_t number;
+    fill_answer();
+    number = panelrue_run_logged(file, length, memory, LENT, allowance, records, log_length, used, answer, room);
+    if (number == 0 && room >= PANELRUE_RUN_LOGGED_ROOM)
+        used = answer[3];
+    tell_image("logged", number);
+}
+
+/* A step back, likewise; 0 where it is refused. */
+static int step_back(panelrue_size room)
+{
+    uint64_t number;
+    fill_answer();
+    number = panelrue_step_back(file, length, memory, LENT, records, LOG, used, answer, room);
+    if (number == 0 && room >= PANELRUE_BACK_ROOM)
+        used = answer[0];
+    tell_image("back", number);
+    return number == 0;
+}
+
+/* Logged runs in pieces and all the way back, then with used lengths past the log, records that are damaged and too little room. */
+static void logs(void)
+{
+    static const uint64_t past[] = {3, LOG - 20, LOG + 1, 4294967296u, 9223372036854775808u, 18446744073709551615u};
+    unsigned i;
+    for (i = 0; i < RECORDS; i++)
+        records[i] = (uint8_t)noise();
+    used = noise() % 40;
+    for (i = 0; i < 4; i++)
+        run_logged(5 * i, i < 3 ? LOG : (panelrue_size)used + 30 * i, PANELRUE_RUN_LOGGED_ROOM);
+    for (i = 0; i < 4; i++) {
+        uint8_t *byte = &records[((uint32_t)used + RECORDS - 1 - noise() % 30) % RECORDS], kept_byte = *byte;
+        *byte ^= (uint8_t)(1u << noise() % 8);
+        step_back(PANELRUE_BACK_ROOM);
+        *byte = kept_byte;
+    }
+    while (step_back(PANELRUE_BACK_ROOM))
+        continue;
+    for (i = 0; i < sizeof past / sizeof past[0]; i++) {
+        used = past[i];
+        run_logged(2, LOG, PANELRUE_RUN_LOGGED_ROOM);
+        step_back(PANELRUE_BACK_ROOM);
+    }
+    used = 0;
+    run_logged(1, LOG, PANELRUE_RUN_LOGGED_ROOM - 1);
+    step_back(PANELRUE_BACK_ROOM - 1);
+    restore();
+}
+
 /* Changes some words of the memory, one at a time and by a bit or wholly, and asks what is made of it. */
 static void damage(void)
 {
@@ -197,7 +233,7 @@ static void damage_packed(void)
     unsigned time, count = port_pack(memory, packed, PANELRUE_WORDS);
     for (time = 0; time < 4 && count > 0; time++) {
         packed[noise() % count] ^= 1u << noise() % 32;
-        put(port_unpack(packed, count - time % 2, memory) ? "whole" : "broken");
+        port_put(port_unpack(packed, count - time % 2, memory) ? "whole" : "broken");
         memory_check(LENT);
         restore();
     }
@@ -217,6 +253,8 @@ static void pieces(void)
         memory_check(LENT);
         look_around();
         keep();
+        if (i == 1 || i == 3)
+            logs();
         if (i == 2 || i == 3)
             damage();
         if (i == 3)
@@ -228,7 +266,6 @@ static void pieces(void)
 /* The list of calls, from memory of noise. */
 static void procedure(void)
 {
-    uint64_t number;
     unsigned i;
     for (i = 0; i < LENT; i++)
         memory[i] = noise();
@@ -239,35 +276,24 @@ static void procedure(void)
     run(5, PANELRUE_RUN_ROOM);
     look(0, PANELRUE_LOOK_ROOM);
     told("start", panelrue_start(file, length, memory, PANELRUE_WORDS - 1));
-    number = panelrue_start(file, length, memory, LENT);
-    tell_image("start", number);
+    tell_image("start", panelrue_start(file, length, memory, LENT));
     memory_check(PANELRUE_WORDS - 1);
     pieces();
-}
-
-/* Reads a number of four bytes; 0 at the end of the input. */
-static int read_number(uint32_t *number)
-{
-    uint8_t bytes[4];
-    if (port_read(bytes, 4) != 4)
-        return 0;
-    *number = bytes[0] | (uint32_t)bytes[1] << 8 | (uint32_t)bytes[2] << 16 | (uint32_t)bytes[3] << 24;
-    return 1;
 }
 
 void port_drive(void)
 {
     uint32_t count = 0;
-    if (!read_number(&turned_call) || !read_number(&turned_part))
+    if (!port_read_number(&turned_call) || !port_read_number(&turned_part))
         return;
-    while (read_number(&length) && length <= sizeof file && port_read(file, length) == length) {
+    while (port_read_number(&length) && length <= sizeof file && port_read(file, length) == length) {
         state = ++count;
-        put("procedure");
-        put_number(count);
-        end_line();
+        port_put("procedure");
+        port_put_number(count);
+        port_end_line();
         procedure();
     }
-    put("end");
-    put_number(count);
-    end_line();
+    port_put("end");
+    port_put_number(count);
+    port_end_line();
 }

@@ -22,6 +22,14 @@ FROM_OUTSIDE("write") void port_write(const uint8_t *from, unsigned count);
 /* Puts every procedure of the input through the list of calls. */
 void port_drive(void);
 
+/* Puts a text into the line, and a number with a space before it; at its end the line is written. */
+void port_put(const char *text);
+void port_put_number(uint64_t number);
+void port_end_line(void);
+
+/* Reads a number of four bytes; 0 at the end of the input. */
+int port_read_number(uint32_t *number);
+
 /* Packs the words of an image that may be other than zero, and answers how many; 0 where there is too little room, or no image. */
 unsigned port_pack(uint32_t *memory, uint32_t *packed, unsigned room);
 

@@ -3,6 +3,7 @@
 //! Without the feature `machine` the reference stands where the proved machine would.
 
 mod depth;
+mod logs;
 mod memory;
 mod resume;
 mod steps;
@@ -120,4 +121,5 @@ pub fn run() {
     depth::print(&sides);
     resume::print(&sides);
     memory::print(&sides);
+    logs::print(&sides);
 }

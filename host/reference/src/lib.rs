@@ -7,6 +7,7 @@ pub mod fit;
 mod flow;
 mod head;
 pub mod image;
+pub mod log;
 pub mod machine;
 mod record;
 mod returns;

@@ -82,6 +82,7 @@ fn word(outcome: Outcome) -> String {
         Outcome::Abort => "abort".to_string(),
         Outcome::Spent => "Spent".to_string(),
         Outcome::Full => "Full".to_string(),
+        Outcome::LogFull => "Log full".to_string(),
     }
 }
 

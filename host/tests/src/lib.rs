@@ -8,6 +8,8 @@ mod linked;
 pub mod machine;
 pub mod random;
 pub mod report;
+#[cfg(feature = "machine")]
+pub mod rooms;
 #[cfg(all(feature = "machine", target_arch = "x86_64", target_os = "linux"))]
 pub mod stack;
 #[cfg(feature = "proved")]

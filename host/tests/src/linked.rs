@@ -1,6 +1,8 @@
 //! A linked library's entry points behind their C interface: one text for every release, whose C functions begin with a prefix of its own.
 
 #[cfg(feature = "machine")]
+pub(crate) mod logs;
+#[cfg(feature = "machine")]
 pub(crate) mod machine;
 
 use crate::Answer;
@@ -51,6 +53,8 @@ macro_rules! linked {
 
             #[cfg(feature = "machine")]
             crate::linked::machine::linked_machine!($module, $prefix);
+            #[cfg(feature = "machine")]
+            crate::linked::logs::linked_logs!($prefix);
         }
     };
 }

@@ -6,6 +6,7 @@ mod deep;
 mod editions;
 mod fitness;
 mod lists;
+mod logs;
 mod looks;
 mod memories;
 mod random;
@@ -29,6 +30,12 @@ pub type RunAnswer = Result<(End, u64), Refusal>;
 /// What a look-up answers.
 pub type LookAnswer = Result<Value, Refusal>;
 
+/// What a logged run answers: the outcome, the steps and the used length of the log.
+pub type LoggedAnswer = Result<calls::Logged, Refusal>;
+
+/// What a step back answers: the used length of the log.
+pub type BackAnswer = Result<u64, Refusal>;
+
 /// The entry points of one side.
 #[derive(Clone, Copy)]
 pub struct Entries {
@@ -37,6 +44,8 @@ pub struct Entries {
     pub run: fn(&[u8], &mut [u32], u64) -> RunAnswer,
     pub memory_check: fn(&[u8], &[u32]) -> Answer,
     pub look_up: fn(&[u8], &[u32], u32) -> LookAnswer,
+    pub run_logged: fn(&[u8], &mut [u32], u64, &mut [u8], u64) -> LoggedAnswer,
+    pub step_back: fn(&[u8], &mut [u32], &[u8], u64) -> BackAnswer,
 }
 
 /// The entry points under test: the reference's, the fast ones, and the proved ones where they are linked.
@@ -48,6 +57,8 @@ pub fn entries() -> Vec<Entries> {
             run: calls::run,
             memory_check: calls::memory_check,
             look_up: calls::look_up,
+            run_logged: calls::run_logged,
+            step_back: calls::step_back,
         },
         Entries {
             name: "fast",
@@ -55,6 +66,8 @@ pub fn entries() -> Vec<Entries> {
             run: fast::machine::run,
             memory_check: fast::machine::memory_check,
             look_up: fast::machine::look_up,
+            run_logged: fast::machine::run_logged,
+            step_back: fast::machine::step_back,
         },
         #[cfg(feature = "machine")]
         crate::proved::ENTRIES,
@@ -69,7 +82,7 @@ fn guarded(group: &dyn Fn() -> Outcome) -> Outcome {
 
 /// The scenarios on one side, with random ones of a size that a number's scale says.
 fn on_side(side: &Entries, scale: impl Fn(u64) -> u64, report: &mut Report) {
-    let groups: [(&str, &dyn Fn() -> Outcome); 12] = [
+    let groups: [(&str, &dyn Fn() -> Outcome); 15] = [
         ("table of runs, entry points", &|| table::outcome(side)),
         ("fit states, entry points", &|| fitness::outcome(side)),
         ("runs on in the other edition", &|| editions::outcome(side)),
@@ -77,6 +90,9 @@ fn on_side(side: &Entries, scale: impl Fn(u64) -> u64, report: &mut Report) {
         ("deep trees, small stack", &|| deep::outcome(side)),
         ("runs cut into pieces", &|| cut::outcome(side, scale(40))),
         ("look-ups after every step", &|| looks::outcome(side, scale(12))),
+        ("logs at their limits", &|| logs::limits::outcome(side)),
+        ("records by hand", &|| logs::records::outcome(side)),
+        ("logged runs taken back", &|| logs::outcome(side, scale(800))),
         ("random lists of calls", &|| lists::outcome(side, scale(1_000))),
         ("random runs", &|| random::outcome(side, scale(20_000))),
         ("random runs in both editions", &|| editions::random(side, scale(4_000))),
@@ -100,6 +116,7 @@ pub fn run(report: &mut Report) {
     }
     report("runs by hand, states", "reference", &guarded(&small::outcome));
     report("fit states by hand", "reference", &guarded(&fitness::judged));
+    report("records of any two images", "reference", &guarded(&logs::layout::outcome));
     report("fit states stay fit", "reference", &guarded(&|| safety::outcome(1_500 * scale)));
     // The reference judges with its own tables, so fewer of its random answers tell anything.
     on_side(&sides[0], |number| number * scale / 4, report);

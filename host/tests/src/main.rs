@@ -113,6 +113,8 @@ fn run() -> Total {
     run_random(&sides[1..], &mut total);
     #[cfg(feature = "proved")]
     total.add("start, answer and memory", "proved", &tests::starts::outcome());
+    #[cfg(feature = "machine")]
+    total.add("answers by their room", "proved", &tests::rooms::outcome());
     machine::run(&mut |group, side, outcome| total.add(group, side, outcome));
     #[cfg(all(feature = "machine", target_arch = "x86_64", target_os = "linux"))]
     total.add("stack of every entry point", "proved", &tests::stack::outcome());

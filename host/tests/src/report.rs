@@ -47,18 +47,18 @@ impl Outcome {
         self.judge(alike, file, || (name(), format!("{expected:?}"), format!("{got:?}")));
     }
 
-    /// Counts one comparison of memories and names the first word that differs.
-    pub fn words(
+    /// Counts one comparison of memories or logs and names the first word, or byte, that differs.
+    pub fn words<T: PartialEq + Debug>(
         &mut self,
         name: impl FnOnce() -> String,
         file: &[u8],
-        expected: &[u32],
-        got: &[u32],
+        expected: &[T],
+        got: &[T],
     ) {
         self.judge(expected == got, file, || {
             let at = expected.iter().zip(got).position(|(e, g)| e != g);
             let at = at.unwrap_or(expected.len().min(got.len()));
-            let word = |words: &[u32]| format!("word {at} {:?}", words.get(at));
+            let word = |words: &[T]| format!("word {at} {:?}", words.get(at));
             (name(), word(expected), word(got))
         });
     }

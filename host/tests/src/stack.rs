@@ -13,7 +13,7 @@ use crate::report::Outcome;
 use files::Label;
 use reference::machine::run::{CALLERS, FRAMES};
 use region::Region;
-use trial::{Measured, Trial, NAMES};
+use trial::{Measured, Trial, LOGGED, NAMES};
 
 /// The most nodes of a small file.
 pub const SMALL: usize = 256;
@@ -28,6 +28,17 @@ pub struct Limits {
 /// The limits that the library is held to.
 pub const LIMITS: Limits = Limits { small: 32 << 10, any: 256 << 10 };
 
+/// The bytes that a call with a log may need more.
+const LOG: usize = 65 << 10;
+
+impl Limits {
+    /// The limit of a call with a file of so many nodes, which has a log or not.
+    fn of(self, nodes: usize, is_logged: bool) -> usize {
+        let limit = if nodes <= SMALL { self.small } else { self.any };
+        limit.saturating_add(if is_logged { LOG } else { 0 })
+    }
+}
+
 /// What a thread of this program takes of its stack beside the call.
 const THREAD: usize = 16 << 10;
 
@@ -36,7 +47,7 @@ struct Row {
     name: String,
     size: usize,
     nodes: usize,
-    cells: [Option<Measured>; 5],
+    cells: [Option<Measured>; NAMES.len()],
 }
 
 impl Row {
@@ -54,7 +65,7 @@ struct Table {
     /// The calls that needed more than what they wrote, with the unit that bytes are counted in, and the most that one needed more.
     beyond: (usize, usize),
     /// How often each question refused, 0 for accepted, in small files and in others.
-    answers: [[usize; 18]; 2],
+    answers: [[usize; 19]; 2],
     outcome: Outcome,
 }
 
@@ -83,7 +94,8 @@ impl Table {
         let at = self.rows.iter().position(|row| row.name == name && row.size == size);
         let at = at.unwrap_or(self.rows.len());
         if at == self.rows.len() {
-            self.rows.push(Row { name: name.to_string(), size, nodes: 0, cells: [None; 5] });
+            let (name, cells) = (name.to_string(), [None; NAMES.len()]);
+            self.rows.push(Row { name, size, nodes: 0, cells });
         }
         &mut self.rows[at]
     }
@@ -107,9 +119,9 @@ impl Table {
             }
         }
         for row in &self.rows {
-            let limit = if row.is_small() { limits.small } else { limits.any };
-            for (entry, cell) in NAMES.iter().zip(row.cells) {
+            for (column, (entry, cell)) in NAMES.iter().zip(row.cells).enumerate() {
                 let Some(Measured { needs, .. }) = cell else { continue };
+                let limit = limits.of(row.nodes, column >= LOGGED);
                 let name = || format!("{entry}, {}, {} nodes, bytes of stack", row.name, row.nodes);
                 let kept = format!("at most {limit}");
                 let got = if needs <= limit { kept.clone() } else { needs.to_string() };
@@ -130,7 +142,7 @@ fn print(table: &Table) {
     }
     for (size, is_small) in [("at most 256 nodes", true), ("any more nodes", false)] {
         let of_size = || table.rows.iter().filter(|row| row.is_small() == is_small);
-        let most = [0, 1, 2, 3, 4].map(|column| {
+        let most: [String; NAMES.len()] = std::array::from_fn(|column| {
             let all = of_size().filter_map(|row| row.cells[column]);
             cell(all.max_by_key(|measured| measured.needs))
         });
@@ -161,7 +173,7 @@ pub fn outcome() -> Outcome {
 pub fn on_threads(limits: Limits) -> bool {
     let mut outcome = Outcome::default();
     files::all(&mut |label, trial| {
-        let limit = if label.nodes <= SMALL { limits.small } else { limits.any };
+        let limit = limits.of(label.nodes, trial.entry.column() >= LOGGED);
         let got = std::thread::scope(|scope| {
             let thread = std::thread::Builder::new().stack_size(limit + THREAD);
             thread.spawn_scoped(scope, || trial.answered()).map(|t| t.join().ok())

@@ -4,8 +4,10 @@ mod code;
 mod fit;
 mod flow;
 mod give;
+mod log;
 mod run;
 
+use crate::calls::Logged;
 use crate::image::WORDS;
 use crate::machine::{Outcome, Value};
 use crate::Refusal;
@@ -73,4 +75,24 @@ pub fn look_up(file: &[u8], memory: &[u32], variable: u32) -> Result<Value, Refu
         1 => Value::Int(memory[at + 1] as i32),
         _ => Value::Bool(memory[at + 1] == 1),
     })
+}
+
+/// Runs the state in the memory on, with a record of each step after the used length of the log.
+pub fn run_logged(
+    file: &[u8],
+    memory: &mut [u32],
+    allowance: u64,
+    log: &mut [u8],
+    used: u64,
+) -> Result<Logged, Refusal> {
+    let code = fit(file, memory)?;
+    let words: &mut Words = memory.first_chunk_mut().ok_or((15, 0, 0))?;
+    Ok(log::run_logged(&code, words, allowance, log, used))
+}
+
+/// Takes the state in the memory back by the log's last record and gives the used length before that record.
+pub fn step_back(file: &[u8], memory: &mut [u32], log: &[u8], used: u64) -> Result<u64, Refusal> {
+    let code = fit(file, memory)?;
+    let words: &mut Words = memory.first_chunk_mut().ok_or((15, 0, 0))?;
+    log::step_back(&code, words, log, used).ok_or((18, 0, 0))
 }

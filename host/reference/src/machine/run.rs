@@ -18,6 +18,8 @@ pub enum Outcome {
     Abort,
     Spent,
     Full,
+    /// The next record does not fit into the log; a run without a log never stops so.
+    LogFull,
 }
 
 impl Running {

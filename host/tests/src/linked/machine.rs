@@ -16,13 +16,14 @@ pub(crate) fn run_answer(number: u64, told: [u64; 3]) -> RunAnswer {
 }
 
 /// The outcome of its number and its word.
-fn outcome(number: u64, word: u64) -> Outcome {
+pub(crate) fn outcome(number: u64, word: u64) -> Outcome {
     match (number, u32::try_from(word)) {
         (0, Ok(c)) => Outcome::Value(c as i32),
         (1, Ok(0)) => Outcome::Arith,
         (2, Ok(0)) => Outcome::Abort,
         (3, Ok(0)) => Outcome::Spent,
         (4, Ok(0)) => Outcome::Full,
+        (5, Ok(0)) => Outcome::LogFull,
         _ => panic!("no outcome has the numbers {number} and {word}"),
     }
 }
@@ -78,8 +79,15 @@ macro_rules! linked_machine {
         }
 
         /// The entry points under the module's name.
-        pub const ENTRIES: Entries =
-            Entries { name: stringify!($module), start, run, memory_check, look_up };
+        pub const ENTRIES: Entries = Entries {
+            name: stringify!($module),
+            start,
+            run,
+            memory_check,
+            look_up,
+            run_logged,
+            step_back,
+        };
 
         /// The memory check's answer.
         pub fn memory_check(file: &[u8], memory: &[u32]) -> Answer {

@@ -1,6 +1,6 @@
 //! The deepest trees on a small stack.
 
-use super::trial::{Model, Trial};
+use super::trial::{Model, Trial, CALLS};
 use super::Entries;
 use crate::report::Outcome;
 use generators::shapes;
@@ -44,7 +44,7 @@ fn refused(side: &Entries, model: &Model) -> Outcome {
     let mut trial = Trial::started(side, model, "deepest statements".to_string());
     for inner in [ret(var(0)), discard(int(0))] {
         let file = shapes::deepest(inner, |s| seq(s, nop())).bytes();
-        for call in 0..4 {
+        for call in 0..CALLS {
             trial.refused(&file, WORDS, call);
         }
     }

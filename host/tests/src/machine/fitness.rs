@@ -9,7 +9,7 @@ use reference::image::{encode_into, MOST_ACTIVATIONS, MOST_FRAMES, WORDS};
 use reference::machine::{Activation, Control, Frame, Ref, Running, State, Value};
 
 mod early;
-mod sample;
+pub(super) mod sample;
 
 /// A state with what the fit paragraph says of it.
 pub struct Case {
@@ -30,7 +30,7 @@ fn act(function: usize, vars: &[Value], frames: &[Frame]) -> Activation {
 }
 
 /// The file that the cases are about.
-fn sample_file() -> File {
+pub(super) fn sample_file() -> File {
     use sample::{f0, f1, f2, f3, f4, f5};
     file(&[f0(), f1(), f2(), f3(), f4(), f5(), early::f6()])
 }

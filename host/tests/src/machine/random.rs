@@ -20,14 +20,15 @@ struct Tally {
     looks: u64,
 }
 
-/// The place of an outcome in the tally.
-fn place(end: End) -> usize {
+/// The place of an outcome in a tally; a run without a log has none at the last one.
+pub fn place(end: End) -> usize {
     match end {
         End::Value(_) => 0,
         End::Arith => 1,
         End::Abort => 2,
         End::Spent => 3,
         End::Full => 4,
+        End::LogFull => 5,
     }
 }
 

@@ -1,6 +1,6 @@
 //! The rows of the paper's table through the entry points.
 
-use super::trial::{Model, Trial};
+use super::trial::{Model, Trial, CALLS};
 use super::{worked, Entries};
 use crate::report::Outcome;
 use crate::used;
@@ -40,7 +40,7 @@ fn refused(side: &Entries) -> Outcome {
         let got = (side.memory_check)(&file, &trial.memory);
         trial.outcome.compare(|| "a refused row".to_string(), &file, Some(refusal), got);
         for words in [0, WORDS - 1, WORDS, WORDS + 100] {
-            for call in 0..4 {
+            for call in 0..CALLS {
                 trial.refused(&file, words, call);
             }
         }
@@ -56,7 +56,7 @@ pub fn short(side: &Entries) -> Outcome {
         let (state, _, _) = model.after(steps);
         let mut trial = Trial::new(side, &model, format!("after {steps} steps"), state);
         for words in [0, 1, 4_480, WORDS - 1] {
-            for call in 0..4 {
+            for call in 0..CALLS {
                 trial.refused(&model.file, words, call);
             }
         }
@@ -79,7 +79,9 @@ fn exact(side: &Entries, model: &Model) -> Outcome {
         let checked = (side.memory_check)(&model.file, &memory);
         let run = (side.run)(&model.file, &mut memory, 5).err();
         let looked = (side.look_up)(&model.file, &memory, u32::MAX).err();
-        for got in [checked, run, looked] {
+        let logged = (side.run_logged)(&model.file, &mut memory, 5, &mut [0; 99], 0).err();
+        let back = (side.step_back)(&model.file, &mut memory, &[], u64::MAX).err();
+        for got in [checked, run, looked, logged, back] {
             outcome.compare(|| "no image".to_string(), &model.file, Some((16, 0, 0)), got);
         }
         outcome.words(|| "no image, memory".to_string(), &model.file, &before, &memory);

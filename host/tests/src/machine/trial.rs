@@ -1,5 +1,7 @@
 //! One memory lent to one side's entry points, beside the state that it must hold.
 
+mod logs;
+
 use super::Entries;
 use crate::report::{shown, Outcome};
 use crate::{used, Answer, TAIL};
@@ -32,7 +34,10 @@ impl Model {
     }
 }
 
-/// A memory under test and the state that it must hold.
+/// The calls on a memory by their numbers: start, run, memory check, look-up, logged run and step back.
+pub const CALLS: usize = 6;
+
+/// A memory and a log under test, and the state that the memory must hold.
 pub struct Trial<'a> {
     pub side: &'a Entries,
     pub model: &'a Model,
@@ -41,16 +46,21 @@ pub struct Trial<'a> {
     pub memory: Vec<u32>,
     /// What the memory must be.
     expected: Vec<u32>,
+    pub log: Vec<u8>,
+    /// What the log must be.
+    expected_log: Vec<u8>,
+    pub used: u64,
     pub outcome: Outcome,
 }
 
 impl<'a> Trial<'a> {
-    /// A memory with the image of a state.
+    /// A memory with the image of a state, and a log of no bytes.
     pub fn new(side: &'a Entries, model: &'a Model, label: String, state: State) -> Trial<'a> {
         let mut memory = used(WORDS + TAIL);
         encode_into(&state, &mut memory);
         let expected = memory.clone();
-        Trial { side, model, label, state, memory, expected, outcome: Outcome::default() }
+        let (log, expected_log, outcome) = (Vec::new(), Vec::new(), Outcome::default());
+        Trial { side, model, label, state, memory, expected, log, expected_log, used: 0, outcome }
     }
 
     /// A memory of other content, on which the side starts the file.
@@ -103,7 +113,7 @@ impl<'a> Trial<'a> {
         expected.err()
     }
 
-    /// One of the four calls with a file that is refused or with the memory cut short; nothing may change.
+    /// One of the calls with a file that is refused or with the memory cut short; nothing may change.
     pub fn refused(&mut self, file: &[u8], words: usize, call: usize) -> Answer {
         let checked = reference::check(file);
         let expected = checked.or((words < WORDS).then_some((15, 0, 0)));
@@ -111,7 +121,7 @@ impl<'a> Trial<'a> {
         expected
     }
 
-    /// Run, memory check or look-up with another accepted file, if the memory is unfit for it, else a memory check.
+    /// One of the calls but start with another accepted file, if the memory is unfit for it, else a memory check.
     pub fn elsewhere(&mut self, file: &[u8], call: usize) -> Answer {
         let expected = reference::calls::memory_check(file, &self.memory);
         if expected.is_some() {
@@ -122,17 +132,20 @@ impl<'a> Trial<'a> {
         expected
     }
 
-    /// One of the four calls that must be refused so; nothing may change.
+    /// One of the calls that must be refused so; nothing may change.
     fn refusal(&mut self, file: &[u8], words: usize, call: usize, expected: Answer) {
         let memory = &mut self.memory[..words];
         let got = match call {
             0 => (self.side.start)(file, memory),
             1 => (self.side.run)(file, memory, 5).err(),
             2 => (self.side.memory_check)(file, memory),
-            _ => (self.side.look_up)(file, memory, 0).err(),
+            3 => (self.side.look_up)(file, memory, 0).err(),
+            4 => (self.side.run_logged)(file, memory, 5, &mut self.log, self.used).err(),
+            _ => (self.side.step_back)(file, memory, &self.log, self.used).err(),
         };
         let name = || format!("{}, refused call {call}", self.label);
         self.outcome.compare(name, file, expected, got);
         self.holds("a refusal");
+        self.log_holds("a refusal");
     }
 }

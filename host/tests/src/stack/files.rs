@@ -8,6 +8,7 @@ use generators::depth::{deep, long_loop, nested_whiles, waiting, TURNS};
 use generators::tree::{int, main, nop, ret, seq};
 use generators::{endless, late, nested, shapes, File};
 use reference::image::{ACTIVATION, ACTIVATIONS, FRAMES, WORDS};
+use reference::log::LONGEST;
 
 /// The nodes of the files: as many as 3,072 bytes have, as a small file has, as 12,288 bytes have, and as there can be.
 pub const SIZES: [usize; 4] = [250, SMALL, 1000, 4096];
@@ -26,8 +27,19 @@ pub type Visit<'a> = dyn FnMut(&Label, Trial) + 'a;
 /// The steps after which states are taken: none, those to the most frames of nested calls, and those to the bottom of a deep program.
 const REACHED: [u64; 3] = [0, 513, 10_000];
 
-/// The allowance of a long run.
+/// The allowance of a long run, and that of a logged run with the bytes of its log.
 const LONG: u64 = 5_000;
+const LOGGED: u64 = 20;
+const ROOM: usize = 2_000;
+
+/// The calls that want an image in the memory.
+const ON_MEMORY: [Entry; 5] = [
+    Entry::Run(LONG),
+    Entry::MemoryCheck,
+    Entry::LookUp(0),
+    Entry::RunLogged(LOGGED),
+    Entry::StepBack,
+];
 
 /// Accepted files with their names: the smallest, every shape, and programs that go down to many frames and callers.
 fn accepted() -> Vec<(String, usize, File)> {
@@ -82,28 +94,44 @@ fn unfit(state: &[u32]) -> Vec<Vec<u32>> {
     [vec![used(WORDS)], changed.to_vec()].concat()
 }
 
-/// The calls with an accepted file, which are accepted or refused for the memory or the variable; gives the most callers and frames.
+/// A memory one logged step further, or as it is where no step is taken, with the log of that step.
+fn logged(file: &[u8], memory: &[u32]) -> (Vec<u32>, Vec<u8>) {
+    let (plain, mut memory, mut log) = (entries()[1], memory.to_vec(), vec![0; LONGEST]);
+    let answer = (plain.run_logged)(file, &mut memory, 1, &mut log, 0);
+    log.truncate(answer.map_or(0, |(_, _, used)| used as usize));
+    (memory, log)
+}
+
+/// The calls with an accepted file, which are accepted or refused for the memory, the variable or the log; gives the most callers and frames.
 fn of_accepted(name: &str, size: usize, file: &File, visit: &mut Visit) -> [usize; 2] {
     let (nodes, bytes, other) = (file.nodes.len(), file.bytes(), used(WORDS));
     let class = if nodes <= SMALL { SMALL } else { SIZES[3] };
-    let mut one = |name: &str, size: usize, entry: Entry, memory: &[u32]| {
-        visit(&Label { name, size, nodes }, Trial { entry, file: &bytes, memory });
+    let room = vec![0; ROOM];
+    let mut with = |name: &str, size: usize, entry: Entry, memory: &[u32], log: &[u8]| {
+        visit(&Label { name, size, nodes }, Trial { entry, file: &bytes, memory, log });
     };
-    let on_memory = [Entry::Run(LONG), Entry::MemoryCheck, Entry::LookUp(0)];
-    one(name, size, Entry::Check, &other);
-    one(name, size, Entry::Start, &other);
-    for entry in [Entry::Start].into_iter().chain(on_memory) {
-        one("any shape, a memory that is short", class, entry, &other[..WORDS - 1]);
-    }
     let states = REACHED.map(|steps| after(&bytes, steps));
     for state in &states {
-        for entry in [Entry::Run(0)].into_iter().chain(on_memory) {
+        let (memory, log) = logged(&bytes, state);
+        with(name, size, Entry::StepBack, &memory, &log);
+        with("any shape, no record", class, Entry::StepBack, state, b"BK");
+    }
+    let mut one = |name: &str, size: usize, entry: Entry, memory: &[u32]| {
+        with(name, size, entry, memory, &room);
+    };
+    one(name, size, Entry::Check, &other);
+    one(name, size, Entry::Start, &other);
+    for entry in [Entry::Start].into_iter().chain(ON_MEMORY) {
+        one("any shape, a memory that is short", class, entry, &other[..WORDS - 1]);
+    }
+    for state in &states {
+        for entry in [Entry::Run(0)].into_iter().chain(ON_MEMORY) {
             one(name, size, entry, state);
         }
         one("any shape, no such variable", class, Entry::LookUp(64), state);
     }
     for memory in unfit(&states[2]) {
-        for entry in on_memory {
+        for entry in ON_MEMORY {
             one("any shape, a memory that is unfit", class, entry, &memory);
         }
     }
@@ -112,9 +140,8 @@ fn of_accepted(name: &str, size: usize, file: &File, visit: &mut Visit) -> [usiz
 
 /// The calls with a refused file on a memory that is good for another one.
 fn of_refused(label: &Label, file: &[u8], memory: &[u32], visit: &mut Visit) {
-    let entries =
-        [Entry::Check, Entry::Start, Entry::Run(LONG), Entry::MemoryCheck, Entry::LookUp(0)];
-    entries.into_iter().for_each(|entry| visit(label, Trial { entry, file, memory }));
+    let entries = [Entry::Check, Entry::Start].into_iter().chain(ON_MEMORY);
+    entries.for_each(|entry| visit(label, Trial { entry, file, memory, log: &[] }));
 }
 
 /// Hands on every call and gives the most callers and frames of a state.

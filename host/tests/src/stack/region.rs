@@ -33,11 +33,12 @@ pub const ROOM: usize = 4 << 20;
 /// What the bytes of a stack are counted in, and what its top is a multiple of.
 pub const UNIT: usize = 64;
 
-/// A C function and its seven words, of which it may want fewer.
+/// A C function and so many words, of which it may want fewer: the first six go in registers, the others on its stack.
 #[derive(Clone, Copy)]
 pub struct Called {
     pub function: usize,
-    pub words: [u64; 7],
+    pub words: [u64; 10],
+    pub count: usize,
 }
 
 /// How a call on a stack that is cut off ended.
@@ -53,19 +54,20 @@ pub enum End {
 
 /// Calls a function with its stack pointer at a place, below which there must be stack enough.
 unsafe fn call_at(top: usize, called: &Called) -> u64 {
-    let [first, second, third, fourth, fifth, sixth, seventh] = called.words;
+    let [first, second, third, fourth, fifth, sixth, ..] = called.words;
+    let stacked = &called.words[6..called.count];
+    // The stack pointer of a call is a multiple of 16.
+    let lower = top - 16 * stacked.len().div_ceil(2);
+    std::ptr::copy_nonoverlapping(stacked.as_ptr(), lower as *mut u64, stacked.len());
     let answer;
     asm!(
         "mov r12, rsp",
         "mov rsp, r13",
-        "sub rsp, 8",
-        "push r15",
         "call r14",
         "mov rsp, r12",
         out("r12") _,
-        in("r13") top,
+        in("r13") lower,
         in("r14") called.function,
-        in("r15") seventh,
         in("rdi") first,
         in("rsi") second,
         in("rdx") third,

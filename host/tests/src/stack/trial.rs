@@ -1,7 +1,7 @@
 //! One call of an entry point, and what it needs of the stack.
 
 use super::region::{Called, End, Region, ROOM, UNIT};
-use crate::machine::entries;
+use crate::machine::{entries, Entries};
 use crate::{proved, Answer};
 use reference::fast;
 
@@ -15,6 +15,10 @@ pub enum Entry {
     MemoryCheck,
     /// A look-up of a variable.
     LookUp(u32),
+    /// A logged run with an allowance, from the beginning of the log.
+    RunLogged(u64),
+    /// A step back by the whole log.
+    StepBack,
 }
 
 impl Entry {
@@ -26,12 +30,18 @@ impl Entry {
             Entry::Run(_) => 2,
             Entry::MemoryCheck => 3,
             Entry::LookUp(_) => 4,
+            Entry::RunLogged(_) => 5,
+            Entry::StepBack => 6,
         }
     }
 }
 
 /// The names of the entry points, by column.
-pub const NAMES: [&str; 5] = ["check", "start", "run", "memory check", "look-up"];
+pub const NAMES: [&str; 7] =
+    ["check", "start", "run", "memory check", "look-up", "logged run", "step back"];
+
+/// The first column of an entry point that has a log.
+pub const LOGGED: usize = 5;
 
 /// What was measured of one call.
 #[derive(Clone, Copy, PartialEq, Debug)]
@@ -42,62 +52,75 @@ pub struct Measured {
     pub needs: usize,
 }
 
-/// A call: an entry point, a file and a memory.
+/// A call: an entry point, a file, a memory and a log.
 #[derive(Clone)]
 pub struct Trial<'a> {
     pub entry: Entry,
     pub file: &'a [u8],
     pub memory: &'a [u32],
+    pub log: &'a [u8],
 }
 
 impl Trial<'_> {
     /// The C function with its words, of which it takes as many as it has arguments.
-    fn called(&self, memory: &mut [u32], told: &mut [u64; 3]) -> Called {
+    fn called(&self, memory: &mut [u32], log: &mut [u8], told: &mut [u64; 4]) -> Called {
         let (file, length) = (self.file.as_ptr() as u64, self.file.len() as u64);
         let (words, count) = (memory.as_mut_ptr() as u64, memory.len() as u64);
-        let answer = told.as_mut_ptr() as u64;
-        let (function, more) = match self.entry {
-            Entry::Check => (proved::panelrue_check as *const () as usize, [0; 3]),
-            Entry::Start => (proved::panelrue_start as *const () as usize, [0; 3]),
+        let (log, room, answer) =
+            (log.as_mut_ptr() as u64, log.len() as u64, told.as_mut_ptr() as u64);
+        let (function, more): (usize, &[u64]) = match self.entry {
+            Entry::Check => (proved::panelrue_check as *const () as usize, &[0; 3]),
+            Entry::Start => (proved::panelrue_start as *const () as usize, &[0; 3]),
             Entry::Run(allowance) => {
-                (proved::panelrue_run as *const () as usize, [allowance, answer, 3])
+                (proved::panelrue_run as *const () as usize, &[allowance, answer, 3])
             }
-            Entry::MemoryCheck => (proved::panelrue_memory_check as *const () as usize, [0; 3]),
+            Entry::MemoryCheck => (proved::panelrue_memory_check as *const () as usize, &[0; 3]),
             Entry::LookUp(variable) => {
-                (proved::panelrue_look_up as *const () as usize, [variable.into(), answer, 2])
+                (proved::panelrue_look_up as *const () as usize, &[variable.into(), answer, 2])
+            }
+            Entry::RunLogged(allowance) => (
+                proved::panelrue_run_logged as *const () as usize,
+                &[allowance, log, room, 0, answer, 4],
+            ),
+            Entry::StepBack => {
+                (proved::panelrue_step_back as *const () as usize, &[log, room, room, answer, 1])
             }
         };
-        Called { function, words: [file, length, words, count, more[0], more[1], more[2]] }
+        let mut all = [file, length, words, count, 0, 0, 0, 0, 0, 0];
+        all[4..4 + more.len()].copy_from_slice(more);
+        Called { function, words: all, count: 4 + more.len() }
+    }
+
+    /// What a side answers, with this check.
+    fn asked(&self, side: &Entries, check: fn(&[u8]) -> Answer) -> Answer {
+        let (file, mut memory, mut log) = (self.file, self.memory.to_vec(), self.log.to_vec());
+        match self.entry {
+            Entry::Check => check(file),
+            Entry::Start => (side.start)(file, &mut memory),
+            Entry::Run(allowance) => (side.run)(file, &mut memory, allowance).err(),
+            Entry::MemoryCheck => (side.memory_check)(file, &memory),
+            Entry::LookUp(variable) => (side.look_up)(file, &memory, variable).err(),
+            Entry::RunLogged(allowance) => {
+                (side.run_logged)(file, &mut memory, allowance, &mut log, 0).err()
+            }
+            Entry::StepBack => (side.step_back)(file, &mut memory, &log, log.len() as u64).err(),
+        }
     }
 
     /// What plain Rust answers.
     pub fn expected(&self) -> Answer {
-        let (plain, mut memory) = (entries()[1], self.memory.to_vec());
-        match self.entry {
-            Entry::Check => fast::check(self.file),
-            Entry::Start => (plain.start)(self.file, &mut memory),
-            Entry::Run(allowance) => (plain.run)(self.file, &mut memory, allowance).err(),
-            Entry::MemoryCheck => (plain.memory_check)(self.file, &memory),
-            Entry::LookUp(variable) => (plain.look_up)(self.file, &memory, variable).err(),
-        }
+        self.asked(&entries()[1], fast::check)
     }
 
     /// What the proved function answers on the stack of this thread.
     pub fn answered(&self) -> Answer {
-        let (side, mut memory) = (proved::ENTRIES, self.memory.to_vec());
-        match self.entry {
-            Entry::Check => proved::check(self.file),
-            Entry::Start => (side.start)(self.file, &mut memory),
-            Entry::Run(allowance) => (side.run)(self.file, &mut memory, allowance).err(),
-            Entry::MemoryCheck => (side.memory_check)(self.file, &memory),
-            Entry::LookUp(variable) => (side.look_up)(self.file, &memory, variable).err(),
-        }
+        self.asked(&proved::ENTRIES, proved::check)
     }
 
     /// The answer with what the call needs of the stack, by both ways of measuring.
     pub fn measured(&self, region: &mut Region) -> (Answer, Measured) {
-        let (mut memory, mut told) = (self.memory.to_vec(), [0; 3]);
-        let called = self.called(&mut memory, &mut told);
+        let (mut memory, mut log, mut told) = (self.memory.to_vec(), self.log.to_vec(), [0; 4]);
+        let called = self.called(&mut memory, &mut log, &mut told);
         let (answer, measured) =
             measured(region, &called, &mut || memory.copy_from_slice(self.memory));
         (crate::linked::answer(answer), measured)
