@@ -28,8 +28,8 @@ extern "C" {
 /* The version of the library, as CHANGELOG.md numbers it. */
 #define PANELRUE_VERSION_MAJOR 0
 #define PANELRUE_VERSION_MINOR 6
-#define PANELRUE_VERSION_PATCH 0
-#define PANELRUE_VERSION "0.6.0"
+#define PANELRUE_VERSION_PATCH 1
+#define PANELRUE_VERSION "0.6.1"
 
 /*
  * A length: of a file and of a log in bytes, of a memory and of room for an answer in words. It has 64 bits on every processor, where

@@ -12,7 +12,7 @@ use Rattle.records.proofs.Bools.{both-mono, and-left, and-right, and-both, or-m
 use Rattle.spec_language.specs.Statements.{Read, Statement, Nop, Seq, Assign, Decl, If, While, Return, Assert, Expr}
 use Rattle.spec_language.specs.Flow.{declares, leaves, returns}
 use Rattle.spec_language.proofs.Flows.{keeps, ok-nop, ok-seq, ok-assign, ok-decl, ok-if, ok-while, ok-return, ok-assert, ok-expr}
-use Rattle.check_effects.specs.Effects.{Covers, Means}
+use Rattle.check_effects.specs.Effects.{returnCode, Covers, Means}
 
 pub empty-member : {C : Type 0} (x : ℕ) → none x ≡ true → C
 unfolding none
@@ -29,7 +29,7 @@ apart a b x e h = by (b x) (λ t. empty-member x (rw (← e) (and-both (a x) (b 
 
 module _ {s u : Statement} {d : Set} {c₁ r₁ w₁ c₂ r₂ w₂ c r w : ℕ} where
   pub sequence-means : Means s d c₁ r₁ w₁ → Means u d c₂ r₂ w₂ → both (has r₂) d ≡ none
-      → has r ≡ either (has r₁) (less (has r₂) (has w₁)) → has w ≡ either (less (has w₁) d) (has w₂) → (c ≡ 4 → (c₁ ≡ 4) ⊎ (c₂ ≡ 4)) → Means (Seq s u) d c r w
+      → has r ≡ either (has r₁) (less (has r₂) (has w₁)) → has w ≡ either (less (has w₁) d) (has w₂) → (c ≡ returnCode → (c₁ ≡ returnCode) ⊎ (c₂ ≡ returnCode)) → Means (Seq s u) d c r w
   unfolding declares leaves returns either less
   sequence-means p q e f g h =
       record {
@@ -49,7 +49,7 @@ module _ {s u : Statement} {d : Set} {c₁ r₁ w₁ c₂ r₂ w₂ c r w : ℕ}
       }
 
   pub branches-means : {e : List Read} (c₀ : ℕ) → Covers e (has c₀) → Means s d c₁ r₁ w₁ → Means u d c₂ r₂ w₂
-      → has r ≡ either (has c₀) (either (has r₁) (has r₂)) → has w ≡ both (has w₁) (has w₂) → (c ≡ 4 → (c₁ ≡ 4) × (c₂ ≡ 4)) → Means (If e s u) d c r w
+      → has r ≡ either (has c₀) (either (has r₁) (has r₂)) → has w ≡ both (has w₁) (has w₂) → (c ≡ returnCode → (c₁ ≡ returnCode) × (c₂ ≡ returnCode)) → Means (If e s u) d c r w
   unfolding declares leaves returns either both
   branches-means {e} c₀ o p q f g h =
       record {
@@ -65,7 +65,7 @@ module _ {s u : Statement} {d : Set} {c₁ r₁ w₁ c₂ r₂ w₂ c r w : ℕ}
       }
 
 module _ {s : Statement} {d : Set} {c₁ r₁ w₁ c r w : ℕ} where
-  pub loop-means : {e : List Read} (c₀ : ℕ) → Covers e (has c₀) → Means s d c₁ r₁ w₁ → has r ≡ either (has c₀) (has r₁) → has w ≡ none → (c ≡ 4 → ⊥) → Means (While e s) d c r w
+  pub loop-means : {e : List Read} (c₀ : ℕ) → Covers e (has c₀) → Means s d c₁ r₁ w₁ → has r ≡ either (has c₀) (has r₁) → has w ≡ none → (c ≡ returnCode → ⊥) → Means (While e s) d c r w
   unfolding declares leaves either
   loop-means {e} c₀ o p f g h =
       record {
@@ -88,12 +88,12 @@ module _ {s : Statement} {d : Set} {c₁ w₁ c r w : ℕ} where
 
 -- statements without parts
 module _ {d : Set} {c r w : ℕ} where
-  pub nop-means : has w ≡ none → (c ≡ 4 → ⊥) → Means Nop d c r w
+  pub nop-means : has w ≡ none → (c ≡ returnCode → ⊥) → Means Nop d c r w
   unfolding declares leaves
   nop-means g h =
       record { reading = λ b k. ok-nop b; setting = λ b x l. empty-member x (rw g at l); declared = λ x l. empty-member x l; returning = λ z. absurd (h z) }
 
-  pub assign-means : {x : ℕ} {e : List Read} → Covers e (has r) → has w ≡ with none x → (c ≡ 4 → ⊥) → Means (Assign x e) d c r w
+  pub assign-means : {x : ℕ} {e : List Read} → Covers e (has r) → has w ≡ with none x → (c ≡ returnCode → ⊥) → Means (Assign x e) d c r w
   unfolding declares leaves with none
   assign-means {x} {e} o g h =
       record {
@@ -108,12 +108,12 @@ module _ {d : Set} {c r w : ℕ} where
   return-means {e} o g =
       record { reading = λ b k. ok-return b e .1 (o b k); setting = λ b x l. or-last (b x) _ (rw g at l); declared = λ x l. empty-member x l; returning = λ z. refl }
 
-  pub assert-means : {e : List Read} → Covers e (has r) → has w ≡ none → (c ≡ 4 → ⊥) → Means (Assert e) d c r w
+  pub assert-means : {e : List Read} → Covers e (has r) → has w ≡ none → (c ≡ returnCode → ⊥) → Means (Assert e) d c r w
   unfolding declares leaves
   assert-means {e} o g h =
       record { reading = λ b k. ok-assert b e .1 (o b k); setting = λ b x l. empty-member x (rw g at l); declared = λ x l. empty-member x l; returning = λ z. absurd (h z) }
 
-  pub expr-means : {e : List Read} → Covers e (has r) → has w ≡ none → (c ≡ 4 → ⊥) → Means (Expr e) d c r w
+  pub expr-means : {e : List Read} → Covers e (has r) → has w ≡ none → (c ≡ returnCode → ⊥) → Means (Expr e) d c r w
   unfolding declares leaves
   expr-means {e} o g h =
       record { reading = λ b k. ok-expr b e .1 (o b k); setting = λ b x l. empty-member x (rw g at l); declared = λ x l. empty-member x l; returning = λ z. absurd (h z) }

@@ -16,9 +16,15 @@ ghost use Rattle.varset.specs.Lowest.{pick};
 ghost use Rattle.varset.specs.Sets.{Set, has, none, below, Sub};
 ghost use Rattle.records.specs.Fields.{kindAt, bAt};
 ghost use Rattle.spec_language.specs.Statements.{Statement, Seq, Decl, If, While, Read};
-ghost use Rattle.check_effects.specs.Effects.{Covers, Means};
+ghost use Rattle.check_effects.specs.Effects.{returnCode, Covers, Means};
 
-// A statement's code, 4 where it returns, 3 where it may not, 255 where it fails; the variables that it may read before it
+// The code of a statement; the code of an expression, which is its type, is below it.
+pub const STATEMENT: u8 = 16;
+
+// The code of a statement that returns.
+pub const RETURN: u8 = 17;
+
+// A statement's code, or 255 where it fails; the variables that it may read before it
 // sets them, and those that it sets on every way through.
 pub struct Effect {
     pub code: u8,
@@ -48,16 +54,16 @@ fn code_if(passes: bool, code: u8) -> u8
 
 // The code of one statement after another.
 fn code_either(a: u8, b: u8) -> u8
-    ensures { λ r. ⌜ (r ≡ 4 → (a ≡ 4) ⊎ (b ≡ 4)) ⌝ }
+    ensures { λ r. ⌜ (r ≡ returnCode → (a ≡ returnCode) ⊎ (b ≡ returnCode)) ⌝ }
 {
-    if a == 4 { 4 } else { b }
+    if a == RETURN { RETURN } else { b }
 }
 
 // The code of two branches.
 fn code_both(a: u8, b: u8) -> u8
-    ensures { λ r. ⌜ (r ≡ 4 → (a ≡ 4) × (b ≡ 4)) ⌝ }
+    ensures { λ r. ⌜ (r ≡ returnCode → (a ≡ returnCode) × (b ≡ returnCode)) ⌝ }
 {
-    if a == 4 { b } else { 3 }
+    if a == RETURN { b } else { STATEMENT }
 }
 
 // One statement after another, where these variables are declared up to there.
@@ -112,7 +118,7 @@ pub fn in_loop(condition: VarSet, body: Effect) -> Effect
 {
     let reads = body.reads;
     Effect {
-        code: 3,
+        code: STATEMENT,
         reads: condition.union(reads),
         sets: VarSet::empty(),
     }
@@ -127,11 +133,11 @@ pub fn plain(code: u8, reads: VarSet, sets: VarSet) -> Effect
 
 // A return, an assert or an expression as statement, by its code: a return counts as giving every variable a value.
 pub fn of_expression(code: u8, reads: VarSet) -> Effect
-    ensures { λ r. ⌜ (r .code ≡ code) × (r .reads ≡ reads) × (has (r .sets .0) ≡ pick (eqb code 4) (below mostVariables) none) ⌝ }
+    ensures { λ r. ⌜ (r .code ≡ code) × (r .reads ≡ reads) × (has (r .sets .0) ≡ pick (eqb code returnCode) (below mostVariables) none) ⌝ }
 {
     let all = VarSet::full();
     let none = VarSet::empty();
-    if code == 4 {
+    if code == RETURN {
         return plain(code, reads, all);
     }
     plain(code, reads, none)

@@ -2,7 +2,6 @@
 use mathlib.Core.Path.{_≡_, refl, sym, ap, _∙_}
 use mathlib.Core.Bool.{Bool, true, false}
 use mathlib.Core.List.{List}
-use mathlib.Core.Logic.{_⊎_}
 use Prim.Native.Nat.{ℕ, _+_, _*_, _-_, _≤_, _<_}
 use native.Mathlib.Omega.{arith}
 use lib.ListN.{length}
@@ -14,9 +13,11 @@ use Rattle.records.specs.Search.{orElse, unless, clear}
 use Rattle.records.specs.declared.Found.{Found}
 use Rattle.records.specs.declared.Found.the-variants.{At, Nothing}
 use Rattle.spec_language.specs.Sorts.{wantsExpression}
+use Rattle.spec_language.specs.KindLists.{isStatement}
 use Rattle.spec_language.specs.Statements.{Statement, prior, last, readsOf, statementIn, statementAt}
 use Rattle.spec_language.specs.Flow.{leaves, missing, lacks, returns}
 use Rattle.spec_language.specs.Known.{Known, WellFormed}
+use Rattle.spec_language.proofs.KindLists.{statement-within}
 use Rattle.spec_language.proofs.KnownNodes.{inner}
 use Rattle.spec_language.proofs.Positions.{body-placed}
 use Rattle.spec_language.proofs.Rules.{lacks-seq, lacks-assign, lacks-decl, lacks-if, lacks-while, lacks-expression, lacks-rest}
@@ -40,8 +41,8 @@ pub from-twelve : (k : ℕ) → 7 ≤ k → (k ≡ 7 → ⊥) → (k ≡ 8 → �
 from-twelve k l a b c d e = omega arith
 
 module _ {t : List ℕ} {n : ℕ} (p : WellFormed t n) {i : ℕ} (l : i < n) where
-  pub above : (kind : ℕ) → kindAt t i ≡ kind → 7 ≤ kind → kind < 15 → 0 < i
-  above kind e a b = inner kind (p .nodes) l e a b
+  pub above : (kind : ℕ) → kindAt t i ≡ kind → isStatement kind ≡ true → 0 < i
+  above kind = inner kind (p .nodes) l
 
   module _ (d : Set) {found : Found} where
     pub seq-lacks : {table : List ℕ} → TableSays t n table → {a : ℕ} {r : Flowed} → kindAt t i ≡ 7 → a ≡ i - 1 - sizeAt t (i - 1) → ((s : Statement) → RowSays s table a → FlowedIs s d r)
@@ -49,7 +50,7 @@ module _ {t : List ℕ} {n : ℕ} (p : WellFormed t n) {i : ℕ} (l : i < n) whe
     unfolding arityOf arities last prior wantsExpression
     seq-lacks o {a} {r} e q f g =
         let h = f (statementAt t a) (rw q (o .0 .flows _ (omega arith) (sorted p l i 7 1 0 l e refl))) in
-        let z : pick (r .ok) (lacks (statementAt t (i - 1)) (leaves (statementAt t a) d)) (lacks (statementAt t a) d) ≡ lacks (statementAt t i) d = sym (one-of (r .ok) _ _ (h .ok)) ∙ rw q (sym (lacks-seq t i d e (above 7 e (omega arith) (omega arith)))) in
+        let z : pick (r .ok) (lacks (statementAt t (i - 1)) (leaves (statementAt t a) d)) (lacks (statementAt t a) d) ≡ lacks (statementAt t i) d = sym (one-of (r .ok) _ _ (h .ok)) ∙ rw q (sym (lacks-seq t i d e (above 7 e refl))) in
         g ∙ rw (h .left) z
 
     pub if-lacks : {table : List ℕ} → TableSays t n table → {a c : ℕ} {r : Flowed} {lacking : Found} → kindAt t i ≡ 10 → a ≡ i - 1 - sizeAt t (i - 1) → c ≡ a - sizeAt t a → ((s : Statement) → RowSays s table a → FlowedIs s d r)
@@ -57,26 +58,26 @@ module _ {t : List ℕ} {n : ℕ} (p : WellFormed t n) {i : ℕ} (l : i < n) whe
     unfolding arityOf arities last prior wantsExpression
     if-lacks o {a} {c} {r} {lacking} e q k f m g =
         let h = f (statementAt t a) (rw q (o .0 .flows _ (omega arith) (sorted p l i 10 1 1 l e refl))) in
-        g ∙ ap (orElse lacking) (sym (one-of (r .ok) _ _ (h .ok))) ∙ rw (m, k, q) (sym (lacks-if t i d e (above 10 e (omega arith) (omega arith))))
+        g ∙ ap (orElse lacking) (sym (one-of (r .ok) _ _ (h .ok))) ∙ rw (m, k, q) (sym (lacks-if t i d e (above 10 e refl)))
 
     pub while-lacks : {a : ℕ} {lacking : Found} → kindAt t i ≡ 11 → a ≡ i - 1 - sizeAt t (i - 1)
         → lacking ≡ missing (readsOf t a) d → found ≡ orElse lacking (lacks (statementAt t (i - 1)) d) → found ≡ lacks (statementAt t i) d
     unfolding last prior
-    while-lacks e q m g = g ∙ rw (m, q) (sym (lacks-while t i d e (above 11 e (omega arith) (omega arith))))
+    while-lacks e q m g = g ∙ rw (m, q) (sym (lacks-while t i d e (above 11 e refl)))
 
     pub decl-lacks : {x : ℕ} {inside : Set} → kindAt t i ≡ 9 → x ≡ bAt t i → inside ≡ without d x → found ≡ lacks (statementAt t (i - 1)) inside → found ≡ lacks (statementAt t i) d
     unfolding last
-    decl-lacks e q w g = g ∙ rw (w, q) (sym (lacks-decl t i d e (above 9 e (omega arith) (omega arith))))
+    decl-lacks e q w g = g ∙ rw (w, q) (sym (lacks-decl t i d e (above 9 e refl)))
 
     pub assign-lacks : kindAt t i ≡ 8 → found ≡ missing (readsOf t (i - 1)) d → found ≡ lacks (statementAt t i) d
     unfolding last
-    assign-lacks e g = g ∙ sym (lacks-assign t i d e (above 8 e (omega arith) (omega arith)))
+    assign-lacks e g = g ∙ sym (lacks-assign t i d e (above 8 e refl))
 
     pub expression-lacks : (kind : ℕ) → kindAt t i ≡ kind → 12 ≤ kind → kind ≤ 14 → found ≡ missing (readsOf t (i - 1)) d → found ≡ lacks (statementAt t i) d
     unfolding last
-    expression-lacks kind e a b g = g ∙ sym (lacks-expression t i d (omega arith) (omega arith) (above kind e (omega arith) (omega arith)))
+    expression-lacks kind e a b g = g ∙ sym (lacks-expression t i d (omega arith) (omega arith) (above kind e (statement-within kind (omega arith) (omega arith))))
 
-    pub rest-lacks : (kindAt t i < 7) ⊎ (15 ≤ kindAt t i) → found ≡ Nothing → found ≡ lacks (statementAt t i) d
+    pub rest-lacks : isStatement (kindAt t i) ≡ false → found ≡ Nothing → found ≡ lacks (statementAt t i) d
     rest-lacks h g = g ∙ sym (lacks-rest t i d h)
 
 -- no statement stands at node 0

@@ -3,15 +3,15 @@ use mathlib.Core.Path.{_≡_, refl, sym, _∙_}
 use mathlib.Core.Bool.{Bool, true, _&&_}
 use mathlib.Core.List.{List}
 use mathlib.Core.Logic.{inl}
-use Prim.Native.Nat.{ℕ, zero, suc, _+_, _*_, _-_, _/_, _%_, _^_, _≤_, _<_}
+use Prim.Native.Nat.{ℕ, zero, suc, _+_, _*_, _-_, _≤_, _<_}
 use native.Mathlib.Omega.{arith}
-use native.Mathlib.Nat.{not-suc-le-zero, mod-lt}
-use lib.Dec.{ltb, lit<}
+use native.Mathlib.Nat.{not-suc-le-zero}
+use lib.Dec.{ltb}
 use lib.ListN.{getD}
 use borrow.Author.Tests.{ltb-true}
 use Rattle.varset.specs.Sets.{Set, has, none, either, Sub}
 use Rattle.records.proofs.Children.{length-walk}
-use Rattle.records.specs.Fields.{resultOf, maskOf, kindAt, aAt, bAt, sizeAt}
+use Rattle.records.specs.Fields.{resultOf, kindAt, aAt, bAt, sizeAt}
 use Rattle.records.specs.Children.{arities, arityOf, arityAt, walk, children}
 use Rattle.records.proofs.Bools.{and-left, and-right, or-more, or-last}
 use Rattle.spec_language.specs.Sorts.{isExpression, wantsExpression}
@@ -20,15 +20,15 @@ use Rattle.spec_language.specs.Statements.{readsOf}
 use Rattle.spec_language.specs.Types.{paramType, typesOf, typeAt, wantsOf, wantAt}
 use Rattle.spec_language.specs.Nodes.{total, outside}
 use Rattle.spec_language.proofs.Trees.{statement-rest}
-use Rattle.check_effects.specs.Effects.{Covers}
+use Rattle.spec_language.proofs.Typings as typings
+use Rattle.check_effects.specs.Effects.{statementCode, Covers}
 use Rattle.check_effects.proofs.EffectParts.{nop-means}
 use Rattle.check_effects.proofs.Covering.{AllCovered, covers-more, node-covered}
 use Rattle.check_pass.specs.Judged.{Kid, Kids, Judged, Filled}
 use Rattle.check_pass.proofs.Kids.{positive, kid-typed, suits-same}
 
-param-small : (s : List ℕ) (f k : ℕ) → paramType s f k < 3
-unfolding paramType
-param-small s f k = let z : maskOf s f / 2 ^ k % 2 < 2 = mod-lt _ (lit< tt) in omega arith
+param-small : (s : List ℕ) (f k : ℕ) → paramType s f k < statementCode
+param-small s f k = omega (arith, typings.param-small s f k .1)
 
 module _ (s : List ℕ) (f : ℕ) (t : List ℕ) (n i : ℕ) where
   -- what the arguments looked at, which read the variables in r, leave to be shown, where j are left and the last of them is c
@@ -79,7 +79,7 @@ module _ (s : List ℕ) (f : ℕ) (t : List ℕ) (n i : ℕ) where
   unfolding wantAt wantsOf wantsExpression either
   left-next {d} {codes} {reads} {sets} {j} {c} {sum} {r} {r′} {size} {next} {callee} {want} e b filled h l w g v x y q =
       let q′ : next ≡ c - sizeAt t c = rw (← x) q in
-      let small : getD codes c 0 < 3 = rw (g, w) (param-small s callee (j - 1)) in
+      let small : getD codes c 0 < statementCode = rw (g, w) (param-small s callee (j - 1)) in
       record {
         few = omega (arith, l .few);
         bound = omega (arith, l .bound);
@@ -95,13 +95,13 @@ module _ (s : List ℕ) (f : ℕ) (t : List ℕ) (n i : ℕ) where
             (rw q′ at ks));
       }
 
-  pub call-judged : {d : Set} {j c sum code r w callee : ℕ} (fit : Bool) → kindAt t i ≡ 5 → callee ≡ bAt t i → code ≡ resultOf s callee → j ≤ 0 → Left j c sum r → (ltb code 3 && fit) ≡ true
+  pub call-judged : {d : Set} {j c sum code r w callee : ℕ} (fit : Bool) → kindAt t i ≡ 5 → callee ≡ bAt t i → code ≡ resultOf s callee → j ≤ 0 → Left j c sum r → (ltb code statementCode && fit) ≡ true
       → (fit ≡ true → (sizeAt t i ≡ 1 + sum) × (sum ≤ i)) → has w ≡ none → Judged s f t n d i code r w
   unfolding total walk isExpression typeAt typesOf outside usesVariable
   call-judged {d} {j} {c} {sum} {code} {r} {w} {callee} fit e b v o l₀ z g h =
-      let fits = g (and-right (ltb code 3) fit z) in
+      let fits = g (and-right (ltb code statementCode) fit z) in
       let l = l₁ in
-      let small = ltb-true code 3 (and-left (ltb code 3) fit z) in
+      let small = ltb-true code statementCode (and-left (ltb code statementCode) fit z) in
       let whole : total (sizeAt t) (children t i) ≡ sum + 0 = l .whole in
       let size : sizeAt t i ≡ 1 + total (sizeAt t) (children t i) = omega (arith, fits .0) in
       let inside : total (sizeAt t) (children t i) ≤ i = omega (arith, fits .1) in
@@ -111,10 +111,10 @@ module _ (s : List ℕ) (f : ℕ) (t : List ℕ) (n i : ℕ) where
         inside = inside;
         kids = all .0;
         scoped = rw e;
-        sort = rw (e, and-left (ltb code 3) fit z);
+        sort = rw (e, and-left (ltb code statementCode) fit z);
         type = λ y. rw (e, v, b);
         covers = λ y. node-covered t (has r) i size inside (λ k. absurd (omega arith)) (all .1);
-        means = rw (statement-rest t i (inl (omega arith))) (nop-means h (λ y. omega arith));
+        means = rw (statement-rest t i (rw e)) (nop-means h (λ y. omega arith));
       }
     where
       l₁ : Left 0 c sum r

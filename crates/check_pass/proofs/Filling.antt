@@ -16,7 +16,7 @@ use Rattle.records.proofs.Bools.{and-left, and-right, and-both, by}
 use Rattle.spec_language.specs.Statements.{statementAt}
 use Rattle.spec_language.specs.Types.{typeAt, wantAt, agree}
 use Rattle.spec_language.specs.Nodes.{sizeOk, wrongChild, some, misplaced, mistyped}
-use Rattle.check_effects.specs.Effects.{Means}
+use Rattle.check_effects.specs.Effects.{statementCode, returnCode, Means}
 use Rattle.check_rest.specs.Sound.{Sound, SoundBefore}
 use Rattle.check_rest.proofs.Sounds.{sound-next}
 use Rattle.check_effects.proofs.EffectParts.{empty-member}
@@ -73,14 +73,14 @@ module _ (s : List ℕ) (f : ℕ) (t : List ℕ) (n : ℕ) where
   agree-all i (c ∷ cs) k = rw (k .0 .type, agree-all i cs (k .1))
 
   -- a node before the last passes
-  pub judged-sound : {d : Set} {i code r w : ℕ} → i < n → Judged s f t n d i code r w → (1 + i ≡ n → (sizeAt t i ≡ n) × (3 ≤ code)) → Sound s f t n i 12
+  pub judged-sound : {d : Set} {i code r w : ℕ} → i < n → Judged s f t n d i code r w → (1 + i ≡ n → (sizeAt t i ≡ n) × (statementCode ≤ code)) → Sound s f t n i 12
   unfolding sizeOk
   judged-sound {d} {i} {code} {r} {w} l j last =
       record {
         sized =
             λ h. rw (eq-eqb (sizeAt t i) _ (j .size), le-leb _ i (j .inside))
             (by (eqb (1 + i) n) (λ b. rw (b, eq-eqb (sizeAt t i) n (last (eqb-true (1 + i) n b) .0))) (λ b. rw b));
-        body = λ h e. rw (j .sort, le-ltb code 3 (last e .1));
+        body = λ h e. rw (j .sort, le-ltb code statementCode (last e .1));
         placed = λ h k m. wrong-none i k (children t i) (j .kids);
         scoped = λ h. j .scoped;
       }
@@ -107,11 +107,11 @@ module _ (s : List ℕ) (f : ℕ) (t : List ℕ) (n : ℕ) where
 
   pub all-below : {d : Set} {codes reads sets : List ℕ} {i₀ last size code r w q : ℕ} (late : ℕ) (begun : Set) (e : Bool) → 1 ≤ n → n ≤ i₀ → Filled s f t n d i₀ codes reads sets → last ≡ n - 1
       → (last < i₀ → Judged s f t n d last code r w) → size ≡ sizeAt t last → has late ≡ less (has r) begun → (e ≡ true → has late ≡ none)
-      → (eqb size n && leb 3 code) ≡ true → (13 < q → e ≡ true) × (14 < q → eqb code 4 ≡ true) × (13 ≤ q) × (q ≤ 15) → Passed s f t n begun q
+      → (eqb size n && leb statementCode code) ≡ true → (13 < q → e ≡ true) × (14 < q → eqb code returnCode ≡ true) × (13 ≤ q) × (q ≤ 15) → Passed s f t n begun q
   unfolding mistyped less
   all-below {d} {codes} {reads} {sets} {i₀} {last} {size} {code} {r} {w} {q} late begun e one all g₀ p jb x y v whole z =
-      let full : size ≡ n = eqb-true size n (and-left (eqb size n) (leb 3 code) whole) in
-      let statement : 3 ≤ code = leb-true 3 code (and-right (eqb size n) (leb 3 code) whole) in
+      let full : size ≡ n = eqb-true size n (and-left (eqb size n) (leb statementCode code) whole) in
+      let statement : statementCode ≤ code = leb-true statementCode code (and-right (eqb size n) (leb statementCode code) whole) in
       let j = jb (omega arith) in
       let m : Means (statementAt t (n - 1)) d code r w = rw p at (j .means) in
       let own : Sound s f t n last 12 = judged-sound (omega arith) j (λ h. (sym x ∙ full, statement)) in
@@ -126,7 +126,7 @@ module _ (s : List ℕ) (f : ℕ) (t : List ℕ) (n : ℕ) where
         scoped = λ h. before .scoped (omega arith);
         typed = λ h i l. rw (agree-all i (children t i) (g₀ .at i (omega arith) .kids));
         reading = λ h. m .reading begun (λ k l. by (begun k) (λ b. b) (λ b. empty-member k (rw (← v (z .0 h), y) (and-both (has r k) _ l (rw b)))));
-        returning = λ h. m .returning (eqb-true code 4 (z .1 h));
+        returning = λ h. m .returning (eqb-true code returnCode (z .1 h));
       }
 
 pub kept-length : (xs : List ℕ) (i v : ℕ) {ys : List ℕ} {m : ℕ} → ys ≡ set xs i v → length xs ≡ m → length ys ≡ m

@@ -14,7 +14,7 @@ use Rattle.spec_language.specs.Sorts.{differ, isExpression, wantsExpression, wr
 use Rattle.spec_language.specs.Types.{typeAt, wantAt, suits}
 use Rattle.spec_language.specs.Nodes.{total, outside}
 use Rattle.spec_language.specs.Statements.{statementAt}
-use Rattle.check_effects.specs.Effects.{Means}
+use Rattle.check_effects.specs.Effects.{statementCode, Means}
 use Rattle.check_effects.proofs.Covering.{AllCovered, node-covered}
 use Rattle.check_pass.specs.Judged.{Kid, Kids, Judged}
 
@@ -27,21 +27,21 @@ positive t zero b m q e = let z : sizeAt t b ≡ sizeAt t 0 = rw q in absurd (om
 positive t (suc i) b m q e = omega arith
 
 module _ (s : List ℕ) (f : ℕ) (t : List ℕ) (n i : ℕ) where
-  sort-expression : (k c code : ℕ) → wantsExpression (kindAt t i) k ≡ true → isExpression (kindAt t c) ≡ ltb code 3 → code < 3 → wrongSort (kindAt t i) k (kindAt t c) ≡ false
+  sort-expression : (k c code : ℕ) → wantsExpression (kindAt t i) k ≡ true → isExpression (kindAt t c) ≡ ltb code statementCode → code < statementCode → wrongSort (kindAt t i) k (kindAt t c) ≡ false
   unfolding wrongSort differ
-  sort-expression k c code w e l = rw (w, e, lt-ltb code 3 l)
+  sort-expression k c code w e l = rw (w, e, lt-ltb code statementCode l)
 
-  sort-statement : (k c code : ℕ) → wantsExpression (kindAt t i) k ≡ false → isExpression (kindAt t c) ≡ ltb code 3 → 3 ≤ code → wrongSort (kindAt t i) k (kindAt t c) ≡ false
+  sort-statement : (k c code : ℕ) → wantsExpression (kindAt t i) k ≡ false → isExpression (kindAt t c) ≡ ltb code statementCode → statementCode ≤ code → wrongSort (kindAt t i) k (kindAt t c) ≡ false
   unfolding wrongSort differ
-  sort-statement k c code w e l = rw (w, e, le-ltb code 3 l)
+  sort-statement k c code w e l = rw (w, e, le-ltb code statementCode l)
 
   -- a child that is an expression, of the type wanted
-  pub kid-typed : {d : Set} {r w : ℕ} (k c code want : ℕ) → wantsExpression (kindAt t i) k ≡ true → wantAt s f t n i k ≡ want → Judged s f t n d c code r w → code < 3 → suits want code ≡ true
+  pub kid-typed : {d : Set} {r w : ℕ} (k c code want : ℕ) → wantsExpression (kindAt t i) k ≡ true → wantAt s f t n i k ≡ want → Judged s f t n d c code r w → code < statementCode → suits want code ≡ true
       → Kid s f t n i k c
   kid-typed k c code want a b j l e = record { sort = sort-expression k c code a (j .sort) l; type = rw (b, j .type l) e }
 
   -- a child that is a statement
-  pub kid-statement : {d : Set} {r w : ℕ} (k c code : ℕ) → wantsExpression (kindAt t i) k ≡ false → wantAt s f t n i k ≡ 254 → Judged s f t n d c code r w → 3 ≤ code → Kid s f t n i k c
+  pub kid-statement : {d : Set} {r w : ℕ} (k c code : ℕ) → wantsExpression (kindAt t i) k ≡ false → wantAt s f t n i k ≡ 254 → Judged s f t n d c code r w → statementCode ≤ code → Kid s f t n i k c
   unfolding suits
   kid-statement k c code a b j l = record { sort = sort-statement k c code a (j .sort) l; type = rw b }
 
@@ -50,7 +50,7 @@ module _ (s : List ℕ) (f : ℕ) (t : List ℕ) (n i : ℕ) where
   Gathered r cs = (kindAt t i ≡ 2 → has r (bAt t i) ≡ true) × AllCovered t (has r) cs
 
   pub judged : {d : Set} {code r w : ℕ} (cs : List ℕ) → children t i ≡ cs → sizeAt t i ≡ 1 + total (sizeAt t) cs → total (sizeAt t) cs ≤ i → Kids s f t n i cs → outside s f t n i ≡ false
-      → isExpression (kindAt t i) ≡ ltb code 3 → (code < 3 → typeAt s f t n i ≡ code) → (code < 3 → Gathered r cs) → Means (statementAt t i) d code r w
+      → isExpression (kindAt t i) ≡ ltb code statementCode → (code < statementCode → typeAt s f t n i ≡ code) → (code < statementCode → Gathered r cs) → Means (statementAt t i) d code r w
       → Judged s f t n d i code r w
   judged {d} {code} {r} {w} cs e a b c g h j o m =
       let a′ : sizeAt t i ≡ 1 + total (sizeAt t) (children t i) = rw e a in

@@ -10,7 +10,7 @@ use borrow.Author.Tests.{ltb-true, eq-eqb}
 use Rattle.records.specs.Fields.{markAt, varsOf, kindAt, aAt, bAt}
 use Rattle.records.proofs.Bools.{and-left, and-right, and-both}
 use Rattle.spec_language.specs.Nodes.{fields, fieldsOk, nodeOk}
-use Rattle.check_shape.proofs.Fields.{in-range}
+use Rattle.spec_language.proofs.KindLists.{in-range}
 use Rattle.check_pass.specs.Limits.{aLimits, bLimits}
 
 -- kinds 0 to 15 that have no arm of their own, and kinds past 15

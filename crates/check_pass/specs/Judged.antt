@@ -11,12 +11,13 @@ use Rattle.records.specs.Fields.{functions, kindAt, aAt, bAt, sizeAt}
 use Rattle.records.specs.Parts.{Laid}
 use Rattle.records.specs.Children.{arityAt, children}
 use Rattle.spec_language.specs.Sorts.{isExpression, wantsExpression, wrongSort}
+use Rattle.spec_language.specs.KindLists.{isStatement}
 use Rattle.spec_language.specs.Statements.{readsOf, statementAt}
 use Rattle.spec_language.specs.Types.{typeAt, wantAt, suits}
 use Rattle.spec_language.specs.Nodes.{total, outside}
 use Rattle.spec_language.specs.Known.{CallsKnown}
 use Rattle.check_scopes.specs.Counts.{Named, Decls}
-use Rattle.check_effects.specs.Effects.{Covers, Means}
+use Rattle.check_effects.specs.Effects.{statementCode, returnCode, Covers, Means}
 
 -- child k of node i is of the sort and of the type that the node wants
 pub record Kid (s : List ℕ) (f : ℕ) (t : List ℕ) (n i k c : ℕ) : Type 0 where
@@ -28,15 +29,15 @@ abbrev pub Kids : List ℕ → ℕ → List ℕ → ℕ → ℕ → List ℕ →
 Kids s f t n i [] = Unit {0}
 Kids s f t n i (c ∷ cs) = Kid s f t n i (length cs) c × Kids s f t n i cs
 
--- node i passes; its code is its type, or 3 or 4 for a statement, and an expression reads no other variables than `reads`
+-- node i passes; its code is an expression's type or a statement's code, and an expression reads no other variables than `reads`
 pub record Judged (s : List ℕ) (f : ℕ) (t : List ℕ) (n : ℕ) (d : Set) (i code reads sets : ℕ) : Type 0 where
   pub size : sizeAt t i ≡ 1 + total (sizeAt t) (children t i)
   pub inside : total (sizeAt t) (children t i) ≤ i
   pub kids : Kids s f t n i (children t i)
   pub scoped : outside s f t n i ≡ false
-  pub sort : isExpression (kindAt t i) ≡ ltb code 3
-  pub type : code < 3 → typeAt s f t n i ≡ code
-  pub covers : code < 3 → Covers (readsOf t i) (has reads)
+  pub sort : isExpression (kindAt t i) ≡ ltb code statementCode
+  pub type : code < statementCode → typeAt s f t n i ≡ code
+  pub covers : code < statementCode → Covers (readsOf t i) (has reads)
   pub means : Means (statementAt t i) d code reads sets
 
 -- what the working arrays say of the first i nodes of a part
@@ -70,29 +71,29 @@ pub record AtNode (s : List ℕ) (f : ℕ) (t : List ℕ) (n : ℕ) (decls codes
 -- node i, which is no variable, has no children, and its code is `code`
 pub record Leaf (s : List ℕ) (f : ℕ) (t : List ℕ) (n i code : ℕ) : Type 0 where
   pub arity : arityAt t i ≡ 0
-  pub plain : (kindAt t i < 7) ⊎ (15 ≤ kindAt t i)
+  pub plain : isStatement (kindAt t i) ≡ false
   pub other : kindAt t i ≡ 2 → ⊥
   pub scoped : outside s f t n i ≡ false
-  pub sort : isExpression (kindAt t i) ≡ ltb code 3
-  pub type : code < 3 → typeAt s f t n i ≡ code
-  pub small : code < 4
+  pub sort : isExpression (kindAt t i) ≡ ltb code statementCode
+  pub type : code < statementCode → typeAt s f t n i ≡ code
+  pub small : code < returnCode
 
 -- node i has two operands of the type `want`, and its own type is `code`
 pub record Operator (s : List ℕ) (f : ℕ) (t : List ℕ) (n i want code : ℕ) : Type 0 where
   pub arity : arityAt t i ≡ 2
-  pub low : kindAt t i < 7
+  pub plain : isStatement (kindAt t i) ≡ false
   pub other : kindAt t i ≡ 2 → ⊥
   pub scoped : outside s f t n i ≡ false
   pub sort : isExpression (kindAt t i) ≡ true
   pub type : typeAt s f t n i ≡ code
-  pub small : code < 3
-  pub wanted : want < 3
+  pub small : code < statementCode
+  pub wanted : want < statementCode
   pub sorts : (k : ℕ) → wantsExpression (kindAt t i) k ≡ true
   pub types : (k : ℕ) → wantAt s f t n i k ≡ want
 
 -- node i is a return, an assert or an expression as statement, of an expression of the type `want`
 pub record Single (s : List ℕ) (f : ℕ) (t : List ℕ) (n i want code : ℕ) : Type 0 where
-  pub kind : ((kindAt t i ≡ 12) × (code ≡ 4)) ⊎ (((kindAt t i ≡ 13) ⊎ (kindAt t i ≡ 14)) × (code ≡ 3))
+  pub kind : ((kindAt t i ≡ 12) × (code ≡ returnCode)) ⊎ (((kindAt t i ≡ 13) ⊎ (kindAt t i ≡ 14)) × (code ≡ statementCode))
   pub arity : arityAt t i ≡ 1
   pub scoped : outside s f t n i ≡ false
   pub sort : isExpression (kindAt t i) ≡ false

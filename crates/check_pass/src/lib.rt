@@ -3,6 +3,8 @@ mod nodes;
 pub mod survey;
 
 use check_effects::Effect;
+use check_effects::RETURN;
+use check_effects::STATEMENT;
 use check_effects::plain;
 use records::format::TYPE_ANY;
 use records::format::TYPE_UNSET;
@@ -60,7 +62,7 @@ fn call_at(
         c = minus(c, size);
     }
     let found = result_of(file, callee);
-    let passes = (found < 3) & nodes::fits(part, i, sum);
+    let passes = (found < STATEMENT) & nodes::fits(part, i, sum);
     nodes::guard(passes, plain(found, all, VarSet::empty()))
 }
 
@@ -86,7 +88,19 @@ fn alone_at(
         1 => nodes::leaf_at(file, f, part, n, decls, codes, reads, sets, seen, i, 2),
         2 => nodes::variable_at(file, f, part, n, decls, codes, reads, sets, seen, i),
         5 => call_at(file, f, part, n, decls, codes, reads, sets, seen, i),
-        6 => nodes::leaf_at(file, f, part, n, decls, codes, reads, sets, seen, i, 3),
+        6 => nodes::leaf_at(
+            file,
+            f,
+            part,
+            n,
+            decls,
+            codes,
+            reads,
+            sets,
+            seen,
+            i,
+            STATEMENT,
+        ),
         15 => nodes::leaf_at(file, f, part, n, decls, codes, reads, sets, seen, i, 0),
         _ => plain(TYPE_UNSET, VarSet::empty(), VarSet::empty()),
     }
@@ -125,8 +139,34 @@ fn node_at(
         9 => nodes::scope_at(file, f, part, n, decls, codes, reads, sets, seen, i),
         10 => nodes::branches_at(file, f, part, n, decls, codes, reads, sets, seen, i),
         11 => nodes::loop_at(file, f, part, n, decls, codes, reads, sets, seen, i),
-        12 => nodes::single_at(file, f, part, n, decls, codes, reads, sets, seen, i, t, 4),
-        13 => nodes::single_at(file, f, part, n, decls, codes, reads, sets, seen, i, 2, 3),
+        12 => nodes::single_at(
+            file,
+            f,
+            part,
+            n,
+            decls,
+            codes,
+            reads,
+            sets,
+            seen,
+            i,
+            t,
+            RETURN,
+        ),
+        13 => nodes::single_at(
+            file,
+            f,
+            part,
+            n,
+            decls,
+            codes,
+            reads,
+            sets,
+            seen,
+            i,
+            2,
+            STATEMENT,
+        ),
         14 => nodes::single_at(
             file,
             f,
@@ -139,7 +179,7 @@ fn node_at(
             seen,
             i,
             TYPE_ANY,
-            3,
+            STATEMENT,
         ),
         _ => plain(TYPE_UNSET, VarSet::empty(), VarSet::empty()),
     }
@@ -210,12 +250,12 @@ fn floor(
     }
     let last = n - 1;
     let body = nodes::effect_of(codes, reads, sets, last);
-    if !((size_at(part, last) == n) & (3 <= body.code)) {
+    if !((size_at(part, last) == n) & (STATEMENT <= body.code)) {
         return check_rest::floor_from(file, f, part, n, decls, last);
     }
     let late = body.reads;
     let held = late.minus(begun).is_empty();
-    least(held, body.code == 4)
+    least(held, body.code == RETURN)
 }
 
 // The least question from 7 to 14 that may fail in the part of function f, of n nodes; 15 where none may.

@@ -1,5 +1,6 @@
 // A node of each kind in the pass over a part: its effect, or that it is not known to pass.
 use check_effects::Effect;
+use check_effects::STATEMENT;
 use check_effects::of_expression;
 use check_effects::plain;
 use records::format::TYPE_UNSET;
@@ -99,7 +100,7 @@ pub fn variable_at(
     let x = b_at(part, i);
     let found = check_types::var_type(file, f, part, n, decls, x);
     let inside = !check_scopes::strays(file, f, part, n, decls, i);
-    let passes = (found < 3) & inside & fits(part, i, 0);
+    let passes = (found < STATEMENT) & inside & fits(part, i, 0);
     let own = VarSet::empty().insert(x);
     guard(passes, plain(found, own, VarSet::empty()))
 }
@@ -154,7 +155,10 @@ pub fn sequence_at(
     let first = effect_of(codes, reads, sets, a);
     let second = effect_of(codes, reads, sets, b);
     let e = check_effects::in_sequence(first, second, seen);
-    let passes = (3 <= first.code) & (3 <= second.code) & (3 <= e.code) & fit;
+    let passes = (STATEMENT <= first.code)
+        & (STATEMENT <= second.code)
+        & (STATEMENT <= e.code)
+        & fit;
     guard(passes, e)
 }
 
@@ -179,10 +183,10 @@ pub fn assign_at(
     let fit = fits(part, i, size_at(part, b));
     let want = check_types::var_type(file, f, part, n, decls, x);
     let inside = !check_scopes::strays(file, f, part, n, decls, i);
-    let passes = (codes[b] < 3) & check_types::is_suited(want, codes[b]) & inside & fit;
+    let passes = (codes[b] < STATEMENT) & check_types::is_suited(want, codes[b]) & inside & fit;
     guard(
         passes,
-        plain(3, reads_of(reads, b), VarSet::empty().insert(x)),
+        plain(STATEMENT, reads_of(reads, b), VarSet::empty().insert(x)),
     )
 }
 
@@ -207,7 +211,7 @@ pub fn scope_at(
     let fit = fits(part, i, size_at(part, b));
     let inner = effect_of(codes, reads, sets, b);
     let e = check_effects::in_scope(inner, x);
-    let passes = (3 <= inner.code) & (3 <= e.code) & fit;
+    let passes = (STATEMENT <= inner.code) & (STATEMENT <= e.code) & fit;
     guard(passes, e)
 }
 
@@ -236,7 +240,7 @@ pub fn branches_at(
     let first = effect_of(codes, reads, sets, a);
     let second = effect_of(codes, reads, sets, b);
     let e = check_effects::in_branches(reads_of(reads, c), first, second);
-    let statements = (3 <= first.code) & (3 <= second.code) & (3 <= e.code);
+    let statements = (STATEMENT <= first.code) & (STATEMENT <= second.code) & (STATEMENT <= e.code);
     guard((codes[c] == 2) & statements & fit, e)
 }
 
@@ -262,7 +266,7 @@ pub fn loop_at(
     let fit = fits(part, i, size + size_at(part, a));
     let body = effect_of(codes, reads, sets, b);
     let e = check_effects::in_loop(reads_of(reads, a), body);
-    let passes = (codes[a] == 2) & (3 <= body.code) & (3 <= e.code) & fit;
+    let passes = (codes[a] == 2) & (STATEMENT <= body.code) & (STATEMENT <= e.code) & fit;
     guard(passes, e)
 }
 
@@ -286,6 +290,6 @@ pub fn single_at(
 {
     let b = minus(i, 1);
     let fit = fits(part, i, size_at(part, b));
-    let passes = (codes[b] < 3) & check_types::is_suited(want, codes[b]) & fit;
+    let passes = (codes[b] < STATEMENT) & check_types::is_suited(want, codes[b]) & fit;
     guard(passes, of_expression(code, reads_of(reads, b)))
 }

@@ -2,16 +2,15 @@
 use mathlib.Core.Path.{_≡_, refl, _∙_}
 use mathlib.Core.Bool.{Bool, true, false}
 use mathlib.Core.List.{List}
-use mathlib.Core.Logic.{_⊎_, inl, inr}
-use Prim.Native.Nat.{ℕ, _+_, _-_, _≤_, _<_}
+use Prim.Native.Nat.{ℕ, _+_, _-_, _<_}
 use native.Mathlib.Omega.{arith}
 use Rattle.varset.specs.Sets.{has, none, with, below}
 use Rattle.records.specs.Format.{mostVariables}
 use Rattle.varset.specs.declared.VarSet.{VarSet}
-use native.Mathlib.Decide.{decLt}
 use Rattle.records.specs.Fields.{kindAt, aAt, bAt, sizeAt}
 use Rattle.records.specs.Children.{arityOf, arities}
 use Rattle.spec_language.specs.Sorts.{isExpression, wantsExpression}
+use Rattle.spec_language.specs.KindLists.{isStatement}
 use Rattle.spec_language.specs.Statements.{Read, Statement, Seq, Decl, If, While, last, prior, readsOf, statementAt}
 use Rattle.spec_language.proofs.Subtrees.{back, child-at, kid-placed}
 use Rattle.spec_language.proofs.Trees.{statement-seq, statement-assign, statement-decl, statement-if, statement-while, statement-return, statement-assert, statement-expr, statement-rest}
@@ -36,20 +35,6 @@ row-sums table k e h = rw (e .0 .0, e .0 .1, e .1 .0, e .1 .1, e .1 .2, e .1 .3)
 abbrev pub PlainIs : Row → VarSet → VarSet → Bool → Type 0
 PlainIs r needs adds returned =
     ((r .fails ≡ false) × (r .returned ≡ returned) × (r .needs ≡ needs) × (r .adds ≡ adds)) × ((has (r .drops .0) ≡ none) × (has (r .declared .0) ≡ none))
-
-not-below : (k : ℕ) → (k < 7 → ⊥) → 7 ≤ k
-not-below k y = omega arith
-
-four-more : (k m : ℕ) → m ≤ k → (k ≡ m → ⊥) → (k ≡ m + 1 → ⊥) → (k ≡ m + 2 → ⊥) → (k ≡ m + 3 → ⊥) → m + 4 ≤ k
-four-more k m l a b c d = omega arith
-
--- a kind that is none of 7 to 14
-pub none-of : (k : ℕ) → (k ≡ 7 → ⊥) → (k ≡ 8 → ⊥) → (k ≡ 9 → ⊥) → (k ≡ 10 → ⊥) → (k ≡ 11 → ⊥) → (k ≡ 12 → ⊥) → (k ≡ 13 → ⊥) → (k ≡ 14 → ⊥) → (k < 7) ⊎ (15 ≤ k)
-none-of k a b c d e f g h = go (decLt k 7)
-  where
-    go : Dec (k < 7) → (k < 7) ⊎ (15 ≤ k)
-    go (yes y) = inl y
-    go (no y) = inr (four-more k 11 (four-more k 7 (not-below k y) a b c d) e f g h)
 
 module _ {t : List ℕ} {n : ℕ} (p : WellFormed t n) {i : ℕ} (l : i < n) where
   pub sorted : (i kind j m : ℕ) → i < n → kindAt t i ≡ kind → arityOf kind (aAt t i) ≡ 1 + j + m → isExpression (kindAt t (back t j (last i))) ≡ wantsExpression kind m
@@ -121,5 +106,5 @@ module _ {t : List ℕ} {n : ℕ} (p : WellFormed t n) {i : ℕ} (l : i < n) whe
           rw (statement-expr t i e (after-one 14 0 e refl))
           (expr-summary _ _ _ _ _ _ (z .0 .0) (rw (z .0 .3) w) (z .1 .0) (z .1 .1) _ (wanted 14 e refl refl (z .0 .2)) (z .0 .1))
 
-    pub nop-arm : {needs adds : VarSet} → (kindAt t i < 7) ⊎ (15 ≤ kindAt t i) → has (needs .0) ≡ none → has (adds .0) ≡ none → PlainIs r needs adds false → Sums (statementAt t i) r
+    pub nop-arm : {needs adds : VarSet} → isStatement (kindAt t i) ≡ false → has (needs .0) ≡ none → has (adds .0) ≡ none → PlainIs r needs adds false → Sums (statementAt t i) r
     nop-arm h v w z = rw (statement-rest t i h) (nop-summary _ _ _ _ _ _ (z .0 .0) (rw (z .0 .3) w) (z .1 .0) (z .1 .1) (rw (z .0 .2) v) (z .0 .1))

@@ -2,15 +2,16 @@
 use mathlib.Core.Path.{_≡_, refl}
 use mathlib.Core.Bool.{true}
 use mathlib.Core.List.{List}
-use Prim.Native.Nat.{ℕ, zero, suc, _+_, _*_, _-_, _≤_, _<_}
+use Prim.Native.Nat.{ℕ, _+_, _*_, _-_, _≤_, _<_}
 use native.Mathlib.Omega.{arith}
 use lib.ListN.{length}
-use borrow.Author.Tests.{ne-eqb, lt-ltb, le-ltb}
+use borrow.Author.Tests.{lt-ltb, le-ltb}
 use Rattle.records.specs.Fields.{functions, paramsOf, kindAt, aAt, bAt}
 use Rattle.records.specs.Parts.{Laid}
 use Rattle.records.specs.Children.{arities, arityOf, arityAt}
+use Rattle.records.proofs.EntryTables.{entry-at}
 use Rattle.spec_language.specs.Scopes.{declOf, usesVariable}
-use Rattle.spec_language.specs.Types.{paramType, varType, typesOf, typeAt, wantsOf, wantAt}
+use Rattle.spec_language.specs.Types.{unset, any, paramType, varType, typesOf, typeAt, wantsOf, wantAt}
 use Rattle.spec_language.specs.Known.{Known}
 use Rattle.check_scopes.proofs.Decls.{use-known}
 
@@ -28,33 +29,69 @@ var-decl s f t n x d l e = rw (le-ltb x (paramsOf s f) l, e)
 pub type-rest : (s : List ℕ) (f : ℕ) (t : List ℕ) (n i k : ℕ) → kindAt t i ≡ k
     → (k ≡ 0 → ⊥) → (k ≡ 1 → ⊥) → (k ≡ 2 → ⊥) → (k ≡ 3 → ⊥) → (k ≡ 4 → ⊥) → (k ≡ 5 → ⊥) → (k ≡ 15 → ⊥) → 255 ≡ typeAt s f t n i
 unfolding typeAt typesOf
-type-rest s f t n i zero e p q r u v w x = absurd (p refl)
-type-rest s f t n i (suc zero) e p q r u v w x = absurd (q refl)
-type-rest s f t n i (suc (suc zero)) e p q r u v w x = absurd (r refl)
-type-rest s f t n i (suc (suc (suc zero))) e p q r u v w x = absurd (u refl)
-type-rest s f t n i (suc (suc (suc (suc zero)))) e p q r u v w x = absurd (v refl)
-type-rest s f t n i (suc (suc (suc (suc (suc zero))))) e p q r u v w x = absurd (w refl)
-type-rest s f t n i (suc (suc (suc (suc (suc (suc k)))))) e p q r u v w x = rw (e, ne-eqb (suc (suc (suc (suc (suc (suc k)))))) 15 x)
+type-rest s f t n i k e =
+    rw e (entry-at (λ k x. (k ≡ 0 → ⊥) → (k ≡ 1 → ⊥) → (k ≡ 2 → ⊥) → (k ≡ 3 → ⊥) → (k ≡ 4 → ⊥) → (k ≡ 5 → ⊥) → (k ≡ 15 → ⊥) → 255 ≡ x) (typesOf s f t n i) unset (
+      λ p q r u v w x. absurd (p refl),
+      (
+        λ p q r u v w x. absurd (q refl),
+        (
+          λ p q r u v w x. absurd (r refl),
+          (
+            λ p q r u v w x. absurd (u refl),
+            (
+              λ p q r u v w x. absurd (v refl),
+              (
+                λ p q r u v w x. absurd (w refl),
+                (o, (o, (o, (o, (o, (o, (o, (o, (o, (λ p q r u v w x. absurd (x refl), tt)))))))))),
+              ),
+            ),
+          ),
+        ),
+      ),
+    ) (λ k l. o) k)
+  where
+    o : {A B C D E F G : Type 0} → A → B → C → D → E → F → G → _≡_ {A = ℕ} 255 255
+    o p q r u v w x = refl
 
 -- kinds that want nothing of their children
 pub want-rest : (s : List ℕ) (f : ℕ) (t : List ℕ) (n i m k : ℕ) → kindAt t i ≡ k
     → (k ≡ 3 → ⊥) → (k ≡ 4 → ⊥) → (k ≡ 5 → ⊥) → (k ≡ 8 → ⊥) → (k ≡ 10 → ⊥) → (k ≡ 11 → ⊥) → (k ≡ 12 → ⊥) → (k ≡ 13 → ⊥) → 254 ≡ wantAt s f t n i m
 unfolding wantAt wantsOf
-want-rest s f t n i m zero e p q r u v w x y = rw e
-want-rest s f t n i m (suc zero) e p q r u v w x y = rw e
-want-rest s f t n i m (suc (suc zero)) e p q r u v w x y = rw e
-want-rest s f t n i m (suc (suc (suc zero))) e p q r u v w x y = absurd (p refl)
-want-rest s f t n i m (suc (suc (suc (suc zero)))) e p q r u v w x y = absurd (q refl)
-want-rest s f t n i m (suc (suc (suc (suc (suc zero))))) e p q r u v w x y = absurd (r refl)
-want-rest s f t n i m (suc (suc (suc (suc (suc (suc zero)))))) e p q r u v w x y = rw e
-want-rest s f t n i m (suc (suc (suc (suc (suc (suc (suc zero))))))) e p q r u v w x y = rw e
-want-rest s f t n i m (suc (suc (suc (suc (suc (suc (suc (suc zero)))))))) e p q r u v w x y = absurd (u refl)
-want-rest s f t n i m (suc (suc (suc (suc (suc (suc (suc (suc (suc zero))))))))) e p q r u v w x y = rw e
-want-rest s f t n i m (suc (suc (suc (suc (suc (suc (suc (suc (suc (suc zero)))))))))) e p q r u v w x y = absurd (v refl)
-want-rest s f t n i m (suc (suc (suc (suc (suc (suc (suc (suc (suc (suc (suc zero))))))))))) e p q r u v w x y = absurd (w refl)
-want-rest s f t n i m (suc (suc (suc (suc (suc (suc (suc (suc (suc (suc (suc (suc zero)))))))))))) e p q r u v w x y = absurd (x refl)
-want-rest s f t n i m (suc (suc (suc (suc (suc (suc (suc (suc (suc (suc (suc (suc (suc zero))))))))))))) e p q r u v w x y = absurd (y refl)
-want-rest s f t n i m (suc (suc (suc (suc (suc (suc (suc (suc (suc (suc (suc (suc (suc (suc k)))))))))))))) e p q r u v w x y = rw e
+want-rest s f t n i m k e =
+    rw e (entry-at (λ k x. (k ≡ 3 → ⊥) → (k ≡ 4 → ⊥) → (k ≡ 5 → ⊥) → (k ≡ 8 → ⊥) → (k ≡ 10 → ⊥) → (k ≡ 11 → ⊥) → (k ≡ 12 → ⊥) → (k ≡ 13 → ⊥) → 254 ≡ x) (wantsOf s f t n i m) any (
+      o,
+      (
+        o,
+        (
+          o,
+          (
+            λ p q r u v w x y. absurd (p refl),
+            (
+              λ p q r u v w x y. absurd (q refl),
+              (
+                λ p q r u v w x y. absurd (r refl),
+                (
+                  o,
+                  (
+                    o,
+                    (
+                      λ p q r u v w x y. absurd (u refl),
+                      (
+                        o,
+                        (λ p q r u v w x y. absurd (v refl), (λ p q r u v w x y. absurd (w refl), (λ p q r u v w x y. absurd (x refl), (λ p q r u v w x y. absurd (y refl), (o, (o, tt)))))),
+                      ),
+                    ),
+                  ),
+                ),
+              ),
+            ),
+          ),
+        ),
+      ),
+    ) (λ k l. o) k)
+  where
+    o : {A B C D E F G H : Type 0} → A → B → C → D → E → F → G → H → _≡_ {A = ℕ} 254 254
+    o p q r u v w x y = refl
 
 -- the record of a function lies in the file, and says at most 8 parameters
 pub laid-at : (s : List ℕ) (f g : ℕ) → Laid s → g < functions s → f ≡ g → (12 * (1 + f) + 12 ≤ length s) × (paramsOf s f ≤ 8)

@@ -30,12 +30,12 @@ ghost use Rattle.spec_language.specs.Nodes.{mistyped};
 ghost use Rattle.spec_language.specs.Known.{Known, CallsKnown};
 ghost use Rattle.check_scopes.specs.Counts.{Decls};
 
-// The type of parameter k by a mask of bool parameters.
-pub fn mask_type(mask: u8, k: usize) -> u8
+// The type of parameter k by the masks of bool, array and grid parameters.
+pub fn mask_type(bools: u8, arrays: u8, grids: u8, k: usize) -> u8
     requires { ⌜ k < 8 ⌝ }
-    ensures { λ r. ⌜ r ≡ maskType mask k ⌝ }
+    ensures { λ r. ⌜ r ≡ maskType bools arrays grids k ⌝ }
 {
-    1 + (mask >> k) % 2
+    1 + (bools >> k) % 2 + 2 * ((arrays >> k) % 2) + 3 * ((grids >> k) % 2)
 }
 
 // The type of parameter k of function f.
@@ -43,7 +43,7 @@ pub fn param_type(file: &[u8], f: usize, k: usize) -> u8
     requires { ⌜ (12 * (1 + f) + 12 ≤ length (now file)) × (k < 8) ⌝ }
     ensures { λ r. ⌜ r ≡ paramType (now (file .entry)) f k ⌝ }
 {
-    mask_type(mask_of(file, f), k)
+    mask_type(mask_of(file, f), 0, 0, k)
 }
 
 // The type of variable x of function f.

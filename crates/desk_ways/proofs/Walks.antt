@@ -1,16 +1,15 @@
 -- What a walk shows at a node of each kind, from the walks over its children.
 use mathlib.Core.Path.{_≡_, sym, _∙_}
-use mathlib.Core.List.{List}
-use mathlib.Core.Logic.{_⊎_, inl, inr}
-use Prim.Native.Nat.{ℕ, _-_, _≤_, _<_}
+use mathlib.Core.List.{List, [], _∷_}
+use Prim.Native.Nat.{ℕ, _-_, _<_}
 use native.Mathlib.Omega.{arith}
-use native.Mathlib.Decide.{decLt}
 use Rattle.varset.specs.Sets.{Set, has, none, with, without, either, below}
 use Rattle.varset.specs.declared.VarSet.{VarSet}
 use Rattle.records.specs.Format.{mostVariables}
 use Rattle.records.specs.Fields.{kindAt, bAt, sizeAt}
 use Rattle.spec_language.specs.Statements.{Read, Statement, Seq, Decl, If, While, prior, last, readsOf, statementAt}
 use Rattle.spec_language.specs.Flow.{declares, leaves}
+use Rattle.spec_language.proofs.KindLists.{none-of}
 use Rattle.spec_language.proofs.Trees.{statement-seq, statement-decl, statement-if, statement-while}
 use Rattle.spec_language.proofs.Rules.{leaves-assign, leaves-return, leaves-rest, declares-rest}
 use Rattle.desk_ways.specs.Follows.{Follows}
@@ -58,10 +57,6 @@ pub follows-rest : (t : List ℕ) (i : ℕ) (set : VarSet) {r : Flow} (k : ℕ) 
     → (r .left ≡ set) × (has (r .declared .0) ≡ none) → Follows (statementAt t i) (has (set .0)) r
 follows-rest t i set {r} k e a b c d f g h =
     record {
-      left = rw (h .0) (sym (leaves-rest t i (has (set .0)) (other (decLt (kindAt t i) 7))));
+      left = rw (h .0) (sym (leaves-rest t i (has (set .0)) (rw e (none-of (7 ∷ 8 ∷ 9 ∷ 10 ∷ 11 ∷ 12 ∷ []) k (a, (b, (c, (d, (f, (g, tt))))))))));
       declared = h .1 ∙ sym (declares-rest t i (λ z. omega arith) (λ z. omega arith) (λ z. omega arith) (λ z. omega arith));
     }
-  where
-    other : Dec (kindAt t i < 7) → (kindAt t i < 7) ⊎ (13 ≤ kindAt t i)
-    other (yes l) = inl l
-    other (no l) = inr (omega arith)

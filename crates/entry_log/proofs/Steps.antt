@@ -19,7 +19,7 @@ use Rattle.spec_machine.proofs.KeepWords.{Bytes, file-words}
 use Rattle.spec_machine.proofs.Runs.{Good, ran}
 use Rattle.spec_image.specs.Sizes.{size}
 use Rattle.spec_image.specs.Image.{image}
-use Rattle.spec_image.proofs.Images.{image-length}
+use Rattle.spec_image.proofs.Images.{env-in, part-zero, image-length}
 use Rattle.spec_image.proofs.Sized.{file-sized, fit-narrow}
 use Rattle.spec_image.proofs.Memory.{whole-held}
 use Rattle.spec_log.specs.Changes.{changes}
@@ -29,7 +29,7 @@ use Rattle.spec_log.proofs.OneStep.{steps-few, no-step}
 use Rattle.fit_state.specs.HoldsState.{HoldsState}
 use Rattle.run_loop.specs.declared.Outcome.{Outcome}
 use Rattle.run_loop.specs.Runs.{HoldsFit, Ends, outcomeOf}
-use Rattle.log_records.specs.Ranges.{Within}
+use Rattle.log_records.specs.Ranges.{NoEnv, Within}
 use Rattle.log_records.specs.declared.extent.Extent.{Extent}
 use Rattle.entry_log.specs.Logs.{Taken, Standing, Crowded}
 
@@ -45,6 +45,9 @@ long-enough s {m} R b f e = omega (arith, ap length e ∙ length-append (image s
 
 pub state-held : (b : List ℕ) → checkOf b ≡ accepted → (s : State) {m : List ℕ} (R : List ℕ) → Fit (programOf b) s → m ≡ image s ++ R → HoldsState m
 state-held b c s {m} R f e = record { state = s; rest = R; held = e; within = f .within; narrow = fit-narrow (programOf b) (file-sized b c) s f }
+
+pub no-env : (s : State) {m : List ℕ} (R b : List ℕ) → Fit (programOf b) s → m ≡ image s ++ R → NoEnv m
+no-env s R b f e = rw e (env-in s R (f .within) ∙ part-zero (programOf b) s (f .proper))
 
 module _ (b : List ℕ) (small : Bytes b) (c : checkOf b ≡ accepted) (s : State) (R : List ℕ) (f : Fit (programOf b) s) where
   abbrev one : Ran
@@ -64,8 +67,8 @@ module _ (b : List ℕ) (small : Bytes b) (c : checkOf b ≡ accepted) (s : Stat
     pub after-words : take size m ≡ image (one .state)
     after-words = first-words (one .state) R b one-fit (e .held)
 
-    pub after-state : HoldsState m × (size ≤ length m)
-    after-state = (state-held b c (one .state) R one-fit (e .held), long-enough (one .state) R b one-fit (e .held))
+    pub after-state : HoldsState m × (size ≤ length m) × NoEnv m
+    after-state = (state-held b c (one .state) R one-fit (e .held), long-enough (one .state) R b one-fit (e .held), no-env (one .state) R b one-fit (e .held))
 
     -- where the run stands
     pub stood : (log : List ℕ) (used : ℕ) → n ≡ 0 → Standing (programOf b) s R log used o m log

@@ -12,7 +12,7 @@ use lib.ListN.{length, getD, drop}
 use lib.Seq.{getD-take, getD-drop}
 use borrow.Author.Tests.{lt-ltb, le-ltb, ltb-true}
 use Rattle.words.specs.Stacks.{blockAt, Every}
-use Rattle.spec_machine.specs.Machine.{emptyEnv, main}
+use Rattle.spec_machine.specs.Machine.{mainCall}
 use Rattle.spec_machine.specs.Run.{looked, lookUp}
 use Rattle.spec_image.specs.Layout.{Activation, activation}
 use Rattle.spec_image.specs.Decode.{valueOf, valuesOf, runningOf, activationsTo, activationsIn, states, stateOf}
@@ -45,7 +45,7 @@ looked-past (suc v) l (suc x) h = looked-past v (drop 2 l) x (omega arith)
 
 -- ---- a state that is not running
 
-other : (m : List ℕ) (x t : ℕ) → (t ≡ 2 → ⊥) → lookUp (getD (states m) t (main emptyEnv)) x ≡ none
+other : (m : List ℕ) (x t : ℕ) → (t ≡ 2 → ⊥) → lookUp (getD (states m) t mainCall) x ≡ none
 unfolding states
 other m x zero n = refl
 other m x (suc zero) n = refl
@@ -54,7 +54,10 @@ other m x (suc (suc (suc zero))) n = refl
 other m x (suc (suc (suc (suc zero)))) n = refl
 other m x (suc (suc (suc (suc (suc zero))))) n = refl
 other m x (suc (suc (suc (suc (suc (suc zero)))))) n = refl
-other m x (suc (suc (suc (suc (suc (suc (suc t))))))) n = refl
+other m x (suc (suc (suc (suc (suc (suc (suc zero))))))) n = refl
+other m x (suc (suc (suc (suc (suc (suc (suc (suc zero)))))))) n = refl
+other m x (suc (suc (suc (suc (suc (suc (suc (suc (suc zero))))))))) n = refl
+other m x (suc (suc (suc (suc (suc (suc (suc (suc (suc (suc t)))))))))) n = refl
 
 module _ (m : List ℕ) (x : ℕ) where
   pub none-given : (getD m 0 0 ≡ 2 → ⊥) → false ≡ isPresent (lookUp (stateOf m) x)

@@ -7,7 +7,7 @@ ghost use mathlib.Core.Path.{_≡_};
 ghost use Rattle.check_file.specs.Answers.{says, Small};
 ghost use Rattle.spec_image.specs.Image.{image};
 ghost use Rattle.spec_image.specs.Sizes.{size};
-ghost use Rattle.spec_machine.specs.Machine.{main, emptyEnv};
+ghost use Rattle.spec_machine.specs.Machine.{mainCall};
 ghost use lib.ListN.{drop, length};
 ghost use mathlib.Core.List.{_++_};
 ghost use Prim.Native.Nat.{_≤_};
@@ -16,7 +16,7 @@ ghost use Rattle.spec_answers.specs.Answers.{startAnswer, startMemory};
 // The image of main() with nothing waiting, written over the first n words, which are 16,384.
 fn write_start(m: &mut [u32], n: usize)
     requires { ⌜ (n ≡ size) × (n ≤ length (now m)) ⌝ }
-    ensures { λ _. ⌜ now (m .exit) ≡ image (main emptyEnv) ++ drop size (now (m .entry)) ⌝ }
+    ensures { λ _. ⌜ now (m .exit) ≡ image mainCall ++ drop size (now (m .entry)) ⌝ }
 {
     words::zero_at(m, 0, n);
     m[0] = TAG_MAIN;

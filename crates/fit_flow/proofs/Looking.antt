@@ -1,17 +1,18 @@
 -- The rows that a table of a part has for a function's expressions and statements.
 use mathlib.Core.Path.{_≡_, refl, _∙_}
-use mathlib.Core.Bool.{true, false, _&&_}
+use mathlib.Core.Bool.{true, _&&_}
 use mathlib.Core.List.{List}
 use Prim.Native.Nat.{ℕ, _+_, _-_, _*_, _≤_, _<_}
 use native.Mathlib.Omega.{arith}
 use lib.ListN.{length}
-use lib.Dec.{leb, ltb}
-use borrow.Author.Tests.{leb-true, le-ltb, ne-eqb}
+use lib.Dec.{ltb}
 use Rattle.records.specs.Fields.{kindAt, sizeAt}
 use Rattle.records.specs.Children.{arityOf, arities}
-use Rattle.records.proofs.Bools.{and-left, and-right}
-use Rattle.spec_language.specs.Sorts.{isExpression, wantsExpression}
+use Rattle.records.proofs.Bools.{and-right}
+use Rattle.spec_language.specs.Sorts.{wantsExpression}
+use Rattle.spec_language.specs.KindLists.{isStatement}
 use Rattle.spec_language.specs.Statements.{last, prior, readsOf, statementAt}
+use Rattle.spec_language.proofs.KindLists.{no-expression}
 use Rattle.spec_machine.specs.File.{programOf}
 use Rattle.spec_machine.specs.Test.{exprIn}
 use Rattle.check_summary.specs.Summary.{Needs}
@@ -20,11 +21,6 @@ use Rattle.fit_nodes.proofs.AcceptedParts.{well-formed}
 use Rattle.fit_nodes.proofs.Sorts.{own-expression, expression-inside}
 use Rattle.check_summary.specs.Tables.{wordOf, RowSays, TableSays}
 use Rattle.check_summary.proofs.Arms.{sorted, kid}
-
--- kinds 7 to 14 are no expressions
-no-expression : (k : ℕ) → 7 ≤ k → k ≤ 14 → isExpression k ≡ false
-unfolding isExpression
-no-expression k a b = rw (le-ltb k 6 (omega arith), ne-eqb k 15 (λ e. omega arith))
 
 module _ {s : List ℕ} {f : ℕ} {t : List ℕ} {n : ℕ} (p : Part s f t n) {table : List ℕ} (o : TableSays t n table) where
   pub row-room : {i : ℕ} → i < n → 5 * i + 5 ≤ length table
@@ -35,15 +31,13 @@ module _ {s : List ℕ} {f : ℕ} {t : List ℕ} {n : ℕ} (p : Part s f t n) {t
   expression-row i h = let l = expression-inside p i h in o .0 .reads i l (own-expression p i l refl refl ∙ h)
 
   -- a statement of the function
-  pub statement-row : (i : ℕ) → i < n → (ltb i n && (leb 7 (kindAt t i) && leb (kindAt t i) 14)) ≡ true → RowSays (statementAt t i) table i
-  statement-row i l h =
-      let k = and-right (ltb i n) _ h in
-      o .0 .flows i l (no-expression (kindAt t i) (leb-true 7 _ (and-left (leb 7 (kindAt t i)) _ k)) (leb-true _ 14 (and-right (leb 7 (kindAt t i)) _ k)))
+  pub statement-row : (i : ℕ) → i < n → (ltb i n && isStatement (kindAt t i)) ≡ true → RowSays (statementAt t i) table i
+  statement-row i l h = o .0 .flows i l (no-expression (kindAt t i) (and-right (ltb i n) _ h))
 
   -- a while, its body and its condition
   module _ {w : ℕ} (l : w < n) (k : kindAt t w ≡ 11) where
     pub while-row : RowSays (statementAt t w) table w
-    while-row = o .0 .flows w l (rw k (no-expression 11 (omega arith) (omega arith)))
+    while-row = o .0 .flows w l (rw k (no-expression 11 refl))
 
     pub body-below : w - 1 < w
     unfolding arityOf arities last

@@ -33,8 +33,8 @@ module _ (s : List ℕ) (e : checkOf s ≡ accepted) where
         rw (variables s (accept.accepted-is s e) f l, types-length (types.varType s f (partOf s f) (countOf s f)) (varsOf s f) 0)
     -- what a call wants
 
-pub call-wants : (s : List ℕ) (g : ℕ) → wants (programOf s) (fn g) ≡ typesFrom (types.maskType (maskOf s g)) (paramsOf s g) 0
+pub call-wants : (s : List ℕ) (g : ℕ) → wants (programOf s) (fn g) ≡ typesFrom (types.maskType (maskOf s g) 0 0) (paramsOf s g) 0
 unfolding programOf funOf types.varType types.paramType
 call-wants s g =
-    types-same (types.varType s g (partOf s g) (countOf s g)) (types.maskType (maskOf s g)) (paramsOf s g) 0
+    types-same (types.varType s g (partOf s g) (countOf s g)) (types.maskType (maskOf s g) 0 0) (paramsOf s g) 0
     (λ k p q. let z : k < paramsOf s g = omega arith in rw (lt-ltb k (paramsOf s g) z))

@@ -15,7 +15,7 @@ use Rattle.spec_machine.specs.File.{typesFrom}
 use Rattle.spec_machine.specs.Test.{areTy, reads, ok, exprIn, stmtIn, exprsIn, hasVar, knownOperation, readsNodes}
 use Rattle.fit_frames.specs.declared.Received.{Received}
 use Rattle.fit_frames.specs.declared.Next.{Next}
-use Rattle.fit_frames.specs.Incoming.{incoming, frameFits}
+use Rattle.fit_frames.specs.Incoming.{incoming, handed, frameFits}
 use Rattle.fit_frames.specs.Operands.{nodeSuits, gathered}
 use Rattle.fit_frames.specs.Meaning.{incomingIs, Steps}
 
@@ -43,7 +43,7 @@ module _ {P : Program} {f : ℕ} {d : Received} {r : Next} where
     gather-unknown e q = refuse {fr = gather h vs ns} e (rw (q, and-false (exprsIn P f ns), and-false (areTy (wants P h) _), and-false (d .some)))
 
     pub gather-law : (want : ℕ → Ty) (c : ℕ) → d .some ≡ true → knownOperation P h ≡ true → wants P h ≡ typesFrom want c 0
-        → r .ok ≡ gathered P f (has (d .set .0)) want c (d .kind) vs ns → incomingIs (r .down) ≡ incoming true (gives P h) (has (d .set .0)) (d .come)
+        → r .ok ≡ gathered P f (has (d .set .0)) want c (d .kind) vs ns → incomingIs (r .down) ≡ handed (gives P h) (has (d .set .0)) (d .come)
         → Steps P f d (gather h vs ns) r
     unfolding incomingIs gathered
     gather-law want c s k w o n =

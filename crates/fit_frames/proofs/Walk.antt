@@ -2,6 +2,7 @@
 use mathlib.Core.Path.{_≡_, refl, sym, ap, _∙_}
 use mathlib.Core.Bool.{Bool, true, false, _&&_, _||_, not, and-assoc, and-comm, and-false, or-assoc, or-true, or-false}
 use mathlib.Core.List.{List, [], _∷_, _++_, map}
+use mathlib.Core.Option.{Option, none, some}
 use Prim.Native.Nat.{ℕ}
 use Rattle.varset.specs.Sets.{Set, both}
 use Rattle.varset.specs.Lowest.{pick}
@@ -9,11 +10,11 @@ use Rattle.words.specs.Stacks.{chain}
 use lib.Dec.{eqb}
 use Rattle.spec_machine.specs.Values.{Ty, tBool, typeV}
 use Rattle.spec_language.specs.Flow.{leaves, returns}
-use Rattle.spec_machine.specs.Program.{Program, typeN, typeOfVar, wants, gives}
+use Rattle.spec_machine.specs.Program.{Program, typeN, typeOfVar, wants, gives, ifGiven}
 use Rattle.spec_machine.specs.Machine.{Frame, gather, and, wait, branch, check, Control, val, eval, exec}
 use Rattle.spec_machine.specs.Fit.{isConst, comes, comesFrom}
 use Rattle.spec_machine.specs.Test.{areTy, reads, ok, exprIn, stmtIn, exprsIn, hasVar, knownOperation, takes, takesNone, controlOver, flows, flowsFrom}
-use Rattle.fit_frames.specs.Incoming.{Incoming, incoming, giving, typed, flown, frameFits, handsOn, ends, startOk, start}
+use Rattle.fit_frames.specs.Incoming.{Incoming, incoming, giving, handed, typed, flown, frameFits, handsOn, ends, startOk, start}
 
 -- ---- tests in another order
 
@@ -44,10 +45,14 @@ abbrev coming : Program → ℕ → Incoming → List Frame → Bool
 coming P f (incoming b t d e) K = e || comes P f K
 
 module _ (P : Program) (f : ℕ) where
+  given-wanted : (o : Option Ty) (d : Set) (e : Bool) (K : List Frame) → ifGiven o (λ t. takes P f t K) (takesNone P f K) ≡ wanted P f (handed o d e) K
+  given-wanted none d e K = refl
+  given-wanted (some t) d e K = refl
+
   wanted-step : (b : Bool) (t : Ty) (d : Set) (e : Bool) (fr : Frame) (K : List Frame)
       → wanted P f (incoming b t d e) (fr ∷ K) ≡ (typed P f b t fr && wanted P f (handsOn P f (incoming b t d e) fr) K)
   wanted-step true t d e (gather h vs ns) K =
-      swapped (areTy (wants P h) (map typeV vs ++ (t ∷ map (typeN P f) ns))) (exprsIn P f ns) (takes P f (gives P h) K) (knownOperation P h)
+      rw (given-wanted (gives P h) d e K) (swapped (areTy (wants P h) (map typeV vs ++ (t ∷ map (typeN P f) ns))) (exprsIn P f ns) _ (knownOperation P h))
   wanted-step true t d e (and n) K = third (eqb t tBool) (exprIn P f n) (eqb (typeN P f n) tBool) (takes P f tBool K)
   wanted-step true t d e (wait r) K = refl
   wanted-step true t d e (Frame.store x) K = sym (and-assoc (eqb t (typeOfVar (P .fun f) x)) (hasVar P f x) (takesNone P f K))

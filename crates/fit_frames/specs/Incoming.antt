@@ -1,13 +1,14 @@
 -- What travels down an activation's frames, and the test of each frame for what comes down to it.
 use mathlib.Core.Bool.{Bool, true, false, _&&_, _||_, not}
 use mathlib.Core.List.{_∷_, _++_, map}
+use mathlib.Core.Option.{Option}
 use Prim.Native.Nat.{ℕ}
 use lib.Dec.{eqb}
 use Rattle.varset.specs.Sets.{Set, with, both, either, below}
 use Rattle.records.specs.Format.{mostVariables}
 use Rattle.spec_language.specs.Flow.{leaves, returns}
 use Rattle.spec_machine.specs.Values.{Ty, tNone, tBool, typeV}
-use Rattle.spec_machine.specs.Program.{Program, typeN, typeOfVar, wants, gives}
+use Rattle.spec_machine.specs.Program.{Program, typeN, typeOfVar, wants, gives, ifGiven}
 use Rattle.spec_machine.specs.Machine.{Frame, gather, and, wait, branch, check, Control, val, eval, exec}
 use Rattle.spec_machine.specs.Fit.{isConst}
 use Rattle.spec_machine.specs.Test.{areTy, reads, ok, exprIn, stmtIn, exprsIn, hasVar, knownOperation, readsNodes}
@@ -19,6 +20,10 @@ pub data Incoming : Type 0 where
 -- a value of the type comes down
 abbrev pub giving : Ty → Set → Incoming
 giving t d = incoming true t d false
+
+-- what an operation gives comes down: a value of a type, or none
+abbrev pub handed : Option Ty → Set → Bool → Incoming
+handed o d e = incoming (ifGiven o (λ t. true) false) (ifGiven o (λ t. t) tNone) d e
 
 -- the frame takes what it is given; by frame
 abbrev pub typed : Program → ℕ → Bool → Ty → Frame → Bool
@@ -48,7 +53,7 @@ frameFits P f (incoming b t d e) fr = typed P f b t fr && flown P f d fr
 
 -- what the frame hands on; by frame
 abbrev pub handsOn : Program → ℕ → Incoming → Frame → Incoming
-handsOn P f (incoming b t d e) (gather h vs ns) = incoming true (gives P h) d e
+handsOn P f (incoming b t d e) (gather h vs ns) = handed (gives P h) d e
 handsOn P f (incoming b t d e) (and n) = incoming true tBool d e
 handsOn P f (incoming b t d e) (wait r) = incoming false tNone (leaves (P .stmt f r) d) (e || returns (P .stmt f r))
 handsOn P f (incoming b t d e) (Frame.store x) = incoming false tNone (with d x) e

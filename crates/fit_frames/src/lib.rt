@@ -109,7 +109,22 @@ fn operator_step(
         return refused(d);
     }
     let set = d.set;
-    let ok = gathers(file, f, part, n, decls, table, m, i, 0, 2, d.kind, set);
+    let ok = gathers(
+        file,
+        f,
+        part,
+        n,
+        decls,
+        table,
+        m,
+        i,
+        0,
+        0,
+        0,
+        2,
+        d.kind,
+        set,
+    );
     let down = giving(set, d.come, operator_type(x as u8));
     Next { ok, down }
 }
@@ -149,6 +164,8 @@ fn call_step(
         m,
         i,
         mask_of(file, g),
+        0,
+        0,
         count,
         d.kind,
         set,

@@ -34,13 +34,13 @@ pub fn tag_type(tag: u32) -> u8
 }
 
 // Whether the first y slots of a frame hold values of the types wanted.
-fn values_suit(m: &[u32], i: usize, mask: u8, y: usize) -> bool
+fn values_suit(m: &[u32], i: usize, bools: u8, arrays: u8, grids: u8, y: usize) -> bool
     requires { ⌜ (size ≤ length (now m)) × (i < frameRoom) × (y < 8) ⌝ }
-    ensures { λ r. ⌜ r ≡ valuesSuit (maskType mask) 0 (valuesOf y (slotsIn (now (m .entry)) i)) ⌝ }
+    ensures { λ r. ⌜ r ≡ valuesSuit (maskType bools arrays grids) 0 (valuesOf y (slotsIn (now (m .entry)) i)) ⌝ }
 {
     let mut k = 0;
     while k < y {
-        if mask_type(mask, k) != tag_type(frame_word(m, i, 4 + k * 2)) {
+        if mask_type(bools, arrays, grids, k) != tag_type(frame_word(m, i, 4 + k * 2)) {
             return false;
         }
         k += 1;
@@ -82,18 +82,20 @@ fn nodes_suit(
     table: &[u64],
     m: &[u32],
     i: usize,
-    mask: u8,
+    bools: u8,
+    arrays: u8,
+    grids: u8,
     y: usize,
     end: usize,
     set: VarSet,
 ) -> bool
     requires part { ⌜ Part (now file) f (now part) n × Decls (now part) n (now decls) × TableSays (now part) n (now table) ⌝ }
     requires room { ⌜ (size ≤ length (now m)) × (i < frameRoom) × (y ≤ end) × (end < 8) ⌝ }
-    ensures { λ r. ⌜ r ≡ nodesSuit (programOf (now (file .entry))) f (has (set .0)) (maskType mask) (y + 1) (nodesOf (end - y) (drop (2 * y) (slotsIn (now (m .entry)) i))) ⌝ }
+    ensures { λ r. ⌜ r ≡ nodesSuit (programOf (now (file .entry))) f (has (set .0)) (maskType bools arrays grids) (y + 1) (nodesOf (end - y) (drop (2 * y) (slotsIn (now (m .entry)) i))) ⌝ }
 {
     let mut j = y;
     while j < end {
-        let want = mask_type(mask, j + 1);
+        let want = mask_type(bools, arrays, grids, j + 1);
         if !node_suits(
             file,
             f,
@@ -122,14 +124,16 @@ pub fn gathers(
     table: &[u64],
     m: &[u32],
     i: usize,
-    mask: u8,
+    bools: u8,
+    arrays: u8,
+    grids: u8,
     count: u32,
     kind: u8,
     set: VarSet,
 ) -> bool
     requires part { ⌜ Part (now file) f (now part) n × Decls (now part) n (now decls) × TableSays (now part) n (now table) ⌝ }
     requires room { ⌜ (size ≤ length (now m)) × (i < frameRoom) × (count ≤ 8) ⌝ }
-    ensures { λ r. ⌜ r ≡ gathered (programOf (now (file .entry))) f (has (set .0)) (maskType mask) count kind (valuesOf (getD (now (m .entry)) (frameAt i + 2) 0) (slotsIn (now (m .entry)) i)) (nodesOf (getD (now (m .entry)) (frameAt i + 3) 0) (drop (2 * getD (now (m .entry)) (frameAt i + 2) 0) (slotsIn (now (m .entry)) i))) ⌝ }
+    ensures { λ r. ⌜ r ≡ gathered (programOf (now (file .entry))) f (has (set .0)) (maskType bools arrays grids) count kind (valuesOf (getD (now (m .entry)) (frameAt i + 2) 0) (slotsIn (now (m .entry)) i)) (nodesOf (getD (now (m .entry)) (frameAt i + 3) 0) (drop (2 * getD (now (m .entry)) (frameAt i + 2) 0) (slotsIn (now (m .entry)) i))) ⌝ }
 {
     let y = frame_word(m, i, 2);
     let z = frame_word(m, i, 3);
@@ -144,11 +148,26 @@ pub fn gathers(
     }
     let low = y as usize;
     let end = (y + z) as usize;
-    if !values_suit(m, i, mask, low) {
+    if !values_suit(m, i, bools, arrays, grids, low) {
         return false;
     }
-    if mask_type(mask, low) != kind {
+    if mask_type(bools, arrays, grids, low) != kind {
         return false;
     }
-    nodes_suit(file, f, part, n, decls, table, m, i, mask, low, end, set)
+    nodes_suit(
+        file,
+        f,
+        part,
+        n,
+        decls,
+        table,
+        m,
+        i,
+        bools,
+        arrays,
+        grids,
+        low,
+        end,
+        set,
+    )
 }

@@ -1,5 +1,6 @@
 pub mod SlotTests
 pub mod BlockTests
+pub mod Environments
 pub mod Passing
 pub mod Runs
 pub mod Sound

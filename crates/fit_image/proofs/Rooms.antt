@@ -11,7 +11,7 @@ use Rattle.words.proofs.Tests.{both}
 use Rattle.spec_machine.specs.Fit.{frameLimit}
 use Rattle.spec_image.specs.Decode.{heldIn}
 use Rattle.fit_image.specs.BlockTests.{frameOk, activationOk}
-use Rattle.fit_image.specs.MemoryTest.{passing, tagOk, headOk, activationsOk, framesOk, imageOk}
+use Rattle.fit_image.specs.MemoryTest.{passing, tagOk, headOk, activationsOk, framesOk, envOk, imageOk}
 use Rattle.fit_image.proofs.Runs.{few-said}
 
 module _ (l : List ℕ) (n : ℕ) where
@@ -27,8 +27,7 @@ module _ (l : List ℕ) (n : ℕ) where
   unfolding framesOk
   frames-less e = rw e
 
-  pub frames-end : passing 20 frameOk l 4480 n ≡ true
-      → (allZero (take (14720 - (4480 + n * 20)) (drop (4480 + n * 20) l)) && allZero (take 1664 (drop 14720 l))) ≡ framesOk l n
+  pub frames-end : passing 20 frameOk l 4480 n ≡ true → allZero (take (14720 - (4480 + n * 20)) (drop (4480 + n * 20) l)) ≡ framesOk l n
   unfolding framesOk
   frames-end e = let k : 14720 - (4480 + n * 20) ≡ (512 - n) * 20 = omega arith in rw (e, k)
 
@@ -53,6 +52,6 @@ module _ (l : List ℕ) where
       unfolding imageOk
       image-many e = rw (h, ← count, a, ← held, lt-leb k frameLimit e)
 
-      pub image-end : k ≤ frameLimit → framesOk l k ≡ imageOk l
+      pub image-end : k ≤ frameLimit → (framesOk l k && envOk (getD l 0 0) (take 1664 (drop 14720 l))) ≡ imageOk l
       unfolding imageOk
       image-end e = rw (h, ← count, a, ← held, le-leb k frameLimit e)

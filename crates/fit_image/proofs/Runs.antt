@@ -11,11 +11,11 @@ use borrow.Author.Tests.{eqb-true, leb-true}
 use Rattle.words.specs.Blocks.{allZero}
 use Rattle.words.specs.Stacks.{total}
 use Rattle.words.proofs.Tests.{both}
-use Rattle.spec_machine.specs.Machine.{Frame, Control}
+use Rattle.spec_machine.specs.Machine.{Frame, Control, RunEnv}
 use Rattle.spec_machine.specs.Fit as fit
 use Rattle.spec_machine.specs.Fit.{WithinLimits, callerLimit, frameLimit}
-use Rattle.spec_image.specs.Layout.{controlWords, Activation, activation}
-use Rattle.spec_image.specs.Image.{savedActivations, savedFrames, headWords, activationsOf, framesOf}
+use Rattle.spec_image.specs.Layout.{controlWords, Activation, activation, envWords}
+use Rattle.spec_image.specs.Image.{savedActivations, savedFrames, headWords, activationsOf, framesOf, envPart}
 use Rattle.spec_image.specs.Decode.{framesHeld, callersOf, runningOf}
 use Rattle.spec_image.proofs.Images.{length-frames}
 use Rattle.spec_image.proofs.Depth.{length-callers}
@@ -35,16 +35,17 @@ callers-cut (activation f k η ∷ X) F h =
     let i = callers-cut X (drop k F) (simp length-drop (omega arith)) in
     (rw (n, i .0), rw (i .1) (take-append-drop k F))
 
-module _ (c : Control) where
+module _ (c : Control) (α : RunEnv) where
   -- what the running state of activations and frames has
   pub record Runs (X : List Activation) (F : List Frame) : Type 0 where
-    pub activations : activationsOf (runningOf c X F) ≡ X
-    pub frames : framesOf (runningOf c X F) ≡ F
-    pub head : headWords (runningOf c X F) ≡ 2 ∷ 0 ∷ length X ∷ controlWords c
-    pub within : length X ≤ callerLimit → length F ≤ frameLimit → WithinLimits (runningOf c X F)
+    pub activations : activationsOf (runningOf c α X F) ≡ X
+    pub frames : framesOf (runningOf c α X F) ≡ F
+    pub head : headWords (runningOf c α X F) ≡ 2 ∷ 0 ∷ length X ∷ controlWords c
+    pub env : envPart (runningOf c α X F) ≡ envWords α
+    pub within : length X ≤ callerLimit → length F ≤ frameLimit → WithinLimits (runningOf c α X F)
 
   pub runs : (X : List Activation) (F : List Frame) → 1 ≤ length X → length F ≡ total framesHeld X → Runs X F
-  unfolding activationsOf framesOf headWords runningOf framesHeld
+  unfolding activationsOf framesOf headWords envPart runningOf framesHeld
   runs [] F p h = absurd (omega arith)
   runs (activation f k η ∷ X) F p h =
       let n : length (take k F) ≡ k = length-take-le k F (omega arith) in
@@ -56,6 +57,7 @@ module _ (c : Control) where
         activations = rw (n, i .0);
         frames = rw (i .1) (take-append-drop k F);
         head = rw a;
+        env = refl;
         within = λ u v. (omega (arith, a), omega (arith, n, b));
       }
 
@@ -91,4 +93,7 @@ few-said (suc (suc (suc zero))) i c f w e = omega (arith, plain c f w e .0)
 few-said (suc (suc (suc (suc zero)))) i c f w e = omega (arith, plain c f w e .0)
 few-said (suc (suc (suc (suc (suc zero))))) i c f w e = omega (arith, plain c f w (both (eqb i 0) _ e .1) .0)
 few-said (suc (suc (suc (suc (suc (suc zero)))))) i c f w e = omega (arith, plain c f w (both (eqb i 0) _ e .1) .0)
-few-said (suc (suc (suc (suc (suc (suc (suc t))))))) i c f w e = absurd (false≢true e)
+few-said (suc (suc (suc (suc (suc (suc (suc zero))))))) i c f w e = absurd (false≢true e)
+few-said (suc (suc (suc (suc (suc (suc (suc (suc zero)))))))) i c f w e = absurd (false≢true e)
+few-said (suc (suc (suc (suc (suc (suc (suc (suc (suc zero))))))))) i c f w e = omega (arith, plain c f w e .0)
+few-said (suc (suc (suc (suc (suc (suc (suc (suc (suc (suc t)))))))))) i c f w e = absurd (false≢true e)

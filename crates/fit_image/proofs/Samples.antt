@@ -2,18 +2,19 @@
 use mathlib.Core.Path.{_≡_, refl}
 use mathlib.Core.Bool.{true, false}
 use mathlib.Core.List.{List, [], _∷_, _++_, map}
+use mathlib.Core.Option.{none, some}
 use Prim.Native.Nat.{ℕ}
 use lib.ListN.{take, replicate}
 use Rattle.spec_machine.specs.Values.{nothing, int, truth}
 use Rattle.spec_machine.specs.Program.{op, fn, node, ifOf}
-use Rattle.spec_machine.specs.Machine.{arith, abort, Frame, gather, and, wait, branch, check, val, saved, emptyEnv, State, exception, main, returned, running}
-use Rattle.spec_image.specs.Layout.{filled, bit, valueWords, valuesWords, nodesWords, refWord, block, gathering, frameWords, controlWords, activation, activationWords}
+use Rattle.spec_machine.specs.Machine.{arith, abort, Frame, gather, and, wait, branch, check, val, saved, emptyEnv, State, exception, calling, mainCall, returned, running}
+use Rattle.spec_image.specs.Layout.{filled, bit, valueWords, valuesWords, nodesWords, refWord, block, gathering, frameWords, controlWords, activation, activationWords, envWords}
 use Rattle.spec_image.specs.Decode.{activationOf, framesHeld}
-use Rattle.spec_image.specs.Image.{savedActivations, savedFrames, headWords, activationsOf, framesOf, image}
+use Rattle.spec_image.specs.Image.{savedActivations, savedFrames, headWords, activationsOf, framesOf, envPart, image}
 use Rattle.spec_image.proofs.Samples.{looping, first, inside}
 use Rattle.spec_image.proofs.Verdicts.{change, changed}
 use Rattle.fit_image.specs.BlockTests.{valueOk, controlOk, operandsOk, frameOk, activationOk}
-use Rattle.fit_image.specs.MemoryTest.{tagOk, headOk, activationsOk, framesOk, imageOk}
+use Rattle.fit_image.specs.MemoryTest.{tagOk, headOk, activationsOk, framesOk, entryOk, envOk, imageOk}
 
 -- ---- frames
 
@@ -55,10 +56,19 @@ abbrev full : State
 full = running (val (truth true)) emptyEnv 5 (replicate 64 (int 9)) (replicate 3 widest) (replicate 13 (saved 127 (int 7 ∷ []) (widest ∷ [])))
 
 images-pass : map (λ s. imageOk (image s ++ (7 ∷ 8 ∷ [])))
-    (main emptyEnv ∷ looping ∷ first ∷ inside ∷ full ∷ returned emptyEnv 3 ∷ State.value 3 ∷ exception arith ∷ exception abort ∷ [])
-    ≡ replicate 9 true
-unfolding filled bit valueWords valuesWords nodesWords refWord block gathering frameWords controlWords activationWords savedActivations savedFrames headWords activationsOf framesOf image valueOk controlOk operandsOk frameOk activationOk tagOk headOk activationsOk framesOk imageOk activationOf framesHeld
+    (mainCall ∷ looping ∷ first ∷ inside ∷ full ∷ returned emptyEnv 3 ∷ State.value 3 ∷ exception arith ∷ exception abort
+    ∷ calling emptyEnv (some 4294967295) ∷ calling (record { entry = 5 }) none ∷ calling (record { entry = 127 }) (some 0) ∷ returned (record { entry = 5 }) 3 ∷ [])
+    ≡ replicate 13 true
+unfolding filled bit valueWords valuesWords nodesWords refWord block gathering frameWords controlWords activationWords envWords savedActivations savedFrames headWords activationsOf framesOf envPart image valueOk controlOk operandsOk frameOk activationOk tagOk headOk activationsOk framesOk entryOk envOk imageOk activationOf framesHeld
 images-pass = refl
+
+-- another entry function in a state that is not final, and tag 9 instead of 1 and 3
+changed-pass : map (λ c. imageOk (changed c))
+    (change mainCall 14721 5 ∷ change inside 14721 4294967295 ∷ change (returned emptyEnv 3) 14721 1 ∷ change (calling emptyEnv (some 3)) 14721 1
+    ∷ change mainCall 0 9 ∷ change (returned emptyEnv 3) 0 9 ∷ [])
+    ≡ replicate 6 true
+unfolding filled bit valueWords valuesWords nodesWords refWord block gathering frameWords controlWords activationWords envWords savedActivations savedFrames headWords activationsOf framesOf envPart image valueOk controlOk operandsOk frameOk activationOk tagOk headOk activationsOk framesOk entryOk envOk imageOk activationOf framesHeld
+changed-pass = refl
 
 -- so many callers beside main's empty one
 abbrev callers : ℕ → State
@@ -69,17 +79,21 @@ images-fail : map (λ s. imageOk (image s))
     (callers 14 ∷ callers 31 ∷ callers 32 ∷ running (val nothing) emptyEnv 0 [] (replicate 513 Frame.leave) []
     ∷ running (val nothing) emptyEnv 0 (replicate 65 nothing) [] [] ∷ running (val nothing) emptyEnv 0 [] (gather (fn 0) [] (replicate 9 1) ∷ []) [] ∷ [])
     ≡ replicate 6 false
-unfolding filled bit valueWords valuesWords nodesWords refWord block gathering frameWords controlWords activationWords savedActivations savedFrames headWords activationsOf framesOf image valueOk controlOk operandsOk frameOk activationOk tagOk headOk activationsOk framesOk imageOk activationOf framesHeld
+unfolding filled bit valueWords valuesWords nodesWords refWord block gathering frameWords controlWords activationWords envWords savedActivations savedFrames headWords activationsOf framesOf envPart image valueOk controlOk operandsOk frameOk activationOk tagOk headOk activationsOk framesOk entryOk envOk imageOk activationOf framesHeld
 images-fail = refl
 
 -- no tag, a tag that no state has, an int where there is none, a control where there is none, a word after the control, the last word, the
 -- word after the last frame's room; no activation, 15, 32, 33; no form, a bool of 2, a word of nothing; a frame too few, too many, and
--- more than words have; a word above the last activation and above the last frame
+-- more than words have; a word above the last activation and above the last frame; the environment's first word, the word after the entry
+-- function, an entry function in a final state, an activation and a control under tag 9, a tag between, a tag after it
 changed-fail : map (λ c. imageOk (changed c))
-    (change (main emptyEnv) 0 0 ∷ change (main emptyEnv) 0 7 ∷ change (exception arith) 1 1 ∷ change inside 1 1 ∷ change (State.value 3) 3 1 ∷ change (main emptyEnv) 2 1
+    (change mainCall 0 0 ∷ change mainCall 0 7 ∷ change (exception arith) 1 1 ∷ change inside 1 1 ∷ change (State.value 3) 3 1 ∷ change mainCall 2 1
     ∷ change inside 5 1 ∷ change inside 127 1 ∷ change inside 16383 1 ∷ change inside 14720 1 ∷ change inside 2 0 ∷ change full 2 15 ∷ change full 2 32 ∷ change full 2 33
     ∷ change inside 3 0 ∷ change inside 3 6 ∷ change inside 3 3 ∷ change inside 3 1 ∷ change inside 265 1 ∷ change inside 265 3 ∷ change inside 265 4294967295
-    ∷ change inside 400 1 ∷ change inside 4560 9 ∷ change inside 14719 1 ∷ [])
-    ≡ replicate 24 false
-unfolding filled bit valueWords valuesWords nodesWords refWord block gathering frameWords controlWords activationWords savedActivations savedFrames headWords activationsOf framesOf image valueOk controlOk operandsOk frameOk activationOk tagOk headOk activationsOk framesOk imageOk activationOf framesHeld
+    ∷ change inside 400 1 ∷ change inside 4560 9 ∷ change inside 14719 1
+    ∷ change mainCall 14720 1 ∷ change inside 14722 1 ∷ change (State.value 3) 14721 1 ∷ change (exception arith) 14721 5 ∷ change (exception abort) 14721 1
+    ∷ change (calling emptyEnv (some 3)) 2 1 ∷ change (calling emptyEnv (some 3)) 3 2 ∷ change (calling emptyEnv (some 3)) 0 8 ∷ change (calling emptyEnv (some 3)) 0 10
+    ∷ [])
+    ≡ replicate 33 false
+unfolding filled bit valueWords valuesWords nodesWords refWord block gathering frameWords controlWords activationWords envWords savedActivations savedFrames headWords activationsOf framesOf envPart image valueOk controlOk operandsOk frameOk activationOk tagOk headOk activationsOk framesOk entryOk envOk imageOk activationOf framesHeld
 changed-fail = refl

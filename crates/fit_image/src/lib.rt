@@ -2,6 +2,7 @@
 use state_words::layout::ACTIVATION_WORDS;
 use state_words::layout::ACTIVATIONS;
 use state_words::layout::CALLER_LIMIT;
+use state_words::layout::ENVIRONMENT;
 use state_words::layout::FORM_BOOL;
 use state_words::layout::FORM_EVAL;
 use state_words::layout::FORM_EXEC;
@@ -14,9 +15,9 @@ use state_words::layout::HEAD_WORDS;
 use state_words::layout::IMAGE_WORDS;
 use state_words::layout::SLOT_ROOM;
 use state_words::layout::SLOTS;
-use state_words::layout::SPARE;
 use state_words::layout::TAG_ABORT;
 use state_words::layout::TAG_ARITH;
+use state_words::layout::TAG_CALL;
 use state_words::layout::TAG_MAIN;
 use state_words::layout::TAG_RETURNED;
 use state_words::layout::TAG_RUNNING;
@@ -27,14 +28,14 @@ ghost use mathlib.Core.Path.{_≡_};
 ghost use mathlib.Core.Bool.{true};
 ghost use Prim.Native.Nat.{_*_, _≤_, _<_};
 ghost use lib.ListN.{length};
-ghost use Rattle.spec_image.specs.Sizes.{activationSize, callerRoom, frameSize, frameRoom, size};
+ghost use Rattle.spec_image.specs.Sizes.{activationSize, callerRoom, frameSize, frameRoom, envSize, size};
 ghost use Rattle.spec_machine.specs.Machine.{State};
 ghost use Rattle.spec_machine.specs.Fit.{WithinLimits};
 ghost use Rattle.spec_image.specs.Decode.{stateOf};
 ghost use Rattle.spec_image.specs.Memory.{Holds};
 ghost use Rattle.spec_image.specs.Narrow.{Narrow};
 ghost use Rattle.fit_image.specs.BlockTests.{valueOk, valuesOk, nodesOk, controlOk, operandsOk, frameOk, activationOk};
-ghost use Rattle.fit_image.specs.MemoryTest.{tagOk, headOk, activationsOk, framesOk, imageOk};
+ghost use Rattle.fit_image.specs.MemoryTest.{tagOk, headOk, activationsOk, framesOk, entryOk, envOk, imageOk};
 
 // Whether a type and a word are a value's.
 fn value_ok(tag: u32, word: u32) -> bool
@@ -161,6 +162,7 @@ fn tag_ok(tag: u32, int: u32, count: u32, form: u32, word: u32) -> bool
         TAG_VALUE => plain,
         TAG_ARITH => zero & plain,
         TAG_ABORT => zero & plain,
+        TAG_CALL => plain,
         _ => false,
     }
 }
@@ -198,7 +200,7 @@ fn wide(x: u32) -> usize
     x as usize
 }
 
-// Whether n frames, and zeros above them, lie in their room, and zeros after it.
+// Whether n frames, and zeros above them, lie in their room.
 fn frames_ok(m: &[u32], n: usize) -> bool
     requires { ⌜ (size ≤ length (now m)) × (n ≤ frameRoom) ⌝ }
     ensures { λ r. ⌜ r ≡ framesOk (now (m .entry)) n ⌝ }
@@ -213,10 +215,33 @@ fn frames_ok(m: &[u32], n: usize) -> bool
         }
     }
     let top = FRAMES + n * FRAME_WORDS;
-    words::all_zero(&m[top..SPARE]) & words::all_zero(&m[SPARE..IMAGE_WORDS])
+    words::all_zero(&m[top..ENVIRONMENT])
 }
 
-// Whether head, activations and frames pass their tests.
+// Whether a word is an entry function's under a tag, which in a final state is none.
+fn entry_ok(tag: u32, entry: u32) -> bool
+    ensures { λ r. ⌜ r ≡ entryOk tag entry ⌝ }
+{
+    match tag {
+        TAG_VALUE => entry == 0,
+        TAG_ARITH => entry == 0,
+        TAG_ABORT => entry == 0,
+        _ => true,
+    }
+}
+
+// Whether 1,664 words are an environment's under a tag.
+fn env_ok(tag: u32, e: &[u32]) -> bool
+    requires { ⌜ length (now e) ≡ envSize ⌝ }
+    ensures { λ r. ⌜ r ≡ envOk tag (now (e .entry)) ⌝ }
+{
+    if words::all_zero(e) {
+        return true;
+    }
+    (e[0] == 0) & (entry_ok(tag, e[1]) & words::all_zero(&e[2..]))
+}
+
+// Whether head, activations, frames and environment pass their tests.
 fn image_ok(m: &[u32]) -> bool
     requires { ⌜ size ≤ length (now m) ⌝ }
     ensures { λ r. ⌜ r ≡ imageOk (now (m .entry)) ⌝ }
@@ -232,7 +257,7 @@ fn image_ok(m: &[u32]) -> bool
     if FRAME_LIMIT < total {
         return false;
     }
-    frames_ok(m, total)
+    frames_ok(m, total) & env_ok(m[0], &m[ENVIRONMENT..IMAGE_WORDS])
 }
 
 // Whether the first 16,384 words are the image of a state within the limits and narrow; it is then the state that they stand for.

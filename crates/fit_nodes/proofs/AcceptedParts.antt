@@ -1,5 +1,5 @@
 -- What the part of a function of an accepted file gives.
-use mathlib.Core.Path.{_≡_}
+use mathlib.Core.Path.{_≡_, refl}
 use mathlib.Core.List.{List}
 use Prim.Native.Nat.{ℕ, _+_, _*_, _≤_, _<_}
 use native.Mathlib.Omega.{arith}
@@ -61,4 +61,4 @@ module _ {s : List ℕ} {f : ℕ} {t : List ℕ} {n : ℕ} (p : Part s f t n) wh
 
   -- a while has a body before it
   pub loop-above : {w : ℕ} → (w < n) × (kindAt t w ≡ 11) → 0 < w
-  loop-above h = inner 11 nodes (h .0) (h .1) (omega arith) (omega arith)
+  loop-above h = inner 11 nodes (h .0) (h .1) refl

@@ -3,8 +3,9 @@ use mathlib.Core.Path.{_≡_}
 use mathlib.Core.Bool.{true, _&&_}
 use mathlib.Core.List.{List}
 use Prim.Native.Nat.{ℕ, _<_}
-use lib.Dec.{eqb, leb, ltb}
+use lib.Dec.{eqb, ltb}
 use Rattle.records.specs.Fields.{kindAt}
+use Rattle.spec_language.specs.KindLists.{isStatement}
 use Rattle.spec_machine.specs.File.{seeAt, programOf}
 use Rattle.spec_machine.specs.Test.{stmtIn}
 use Rattle.state_words.specs.declared.Ref.{Ref}
@@ -22,7 +23,7 @@ module _ {s : List ℕ} {f : ℕ} {t : List ℕ} {n : ℕ} (p : Part s f t n) {r
 
   -- ---- a node's
   module _ {i : ℕ} (e : r ≡ ref.Node i) where
-    pub node-is : (ltb i n && (leb 7 (kindAt t i) && leb (kindAt t i) 14)) ≡ stmtIn (programOf s) f (refIs r)
+    pub node-is : (ltb i n && isStatement (kindAt t i)) ≡ stmtIn (programOf s) f (refIs r)
     unfolding refIs
     node-is = rw e (node-sort p i)
 

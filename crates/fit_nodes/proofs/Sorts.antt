@@ -1,17 +1,17 @@
 -- The sort and the type of a node, by its kind.
 use mathlib.Core.Path.{_≡_, refl, sym, _∙_}
-use mathlib.Core.Logic.{_⊎_, ⊎-elim}
-use mathlib.Core.Bool.{Bool, true, false, not, _&&_, _||_, and-assoc}
+use mathlib.Core.Bool.{Bool, true, false, not, _&&_, and-assoc}
 use mathlib.Core.List.{List}
 use Prim.Native.Nat.{ℕ, _≤_, _<_}
-use native.Mathlib.Omega.{arith}
-use lib.Dec.{eqb, leb, ltb}
-use borrow.Author.Tests.{ltb-true, leb-true, eqb-true, lt-ltb, le-ltb, ne-eqb}
+use lib.Dec.{eqb, ltb}
+use borrow.Author.Tests.{ltb-true, eqb-true, lt-ltb, le-ltb}
 use Rattle.records.specs.Fields.{varsOf, kindAt}
 use Rattle.records.specs.Parts.{partOf}
-use Rattle.records.proofs.Bools.{by, and-left, and-right}
+use Rattle.records.proofs.Bools.{by, clash, and-left, and-right}
 use Rattle.spec_language.specs.Sorts.{isExpression}
+use Rattle.spec_language.specs.KindLists.{isConstant, isStatement}
 use Rattle.spec_language.specs.Types as types
+use Rattle.spec_language.proofs.KindLists.{constant-expression}
 use Rattle.spec_language.proofs.KnownNodes.{inner}
 use Rattle.spec_machine.specs.Program.{node, ifOf, seqOf, StmtForm, typeN, typeOfVar}
 use Rattle.spec_machine.specs.Fit.{isConst, isStmt, isNop}
@@ -22,12 +22,12 @@ use Rattle.spec_machine.proofs.Nodes.{look-sort, variable-type-is, type-is}
 use Rattle.fit_nodes.specs.Part.{Part}
 use Rattle.fit_nodes.proofs.AcceptedParts.{all, nodes}
 
--- kinds 0, 1 and 15 are constants
-constant : (t : List ℕ) (i : ℕ) → (ltb (kindAt t i) 2 || eqb (kindAt t i) 15) ≡ isConst (lookAt t i)
+-- a look is a constant exactly where the kind is
+constant : (t : List ℕ) (i : ℕ) → isConstant (kindAt t i) ≡ isConst (lookAt t i)
 constant t i =
-    by-look t i (λ x. (ltb (kindAt t i) 2 || eqb (kindAt t i) 15) ≡ isConst x)
+    by-look t i (λ x. isConstant (kindAt t i) ≡ isConst x)
     (λ e. rw e) (λ e. rw e) (λ e. rw e) (λ e. rw e) (λ e. rw e) (λ e. rw e) (λ e. rw e)
-    (λ l k. let u : 2 ≤ kindAt t i = omega arith in rw (le-ltb (kindAt t i) 2 u, ne-eqb (kindAt t i) 15 k))
+    (λ n. by (isConstant (kindAt t i)) (λ e. clash (isExpression (kindAt t i)) (constant-expression (kindAt t i) e) n) (λ e. e))
 
 module _ {s : List ℕ} {f : ℕ} {t : List ℕ} {n : ℕ} (p : Part s f t n) where
   -- ---- variables and expressions
@@ -49,7 +49,7 @@ module _ {s : List ℕ} {f : ℕ} {t : List ℕ} {n : ℕ} (p : Part s f t n) wh
     pub expression-inside : exprIn (programOf s) f i ≡ true → i < n
     expression-inside e = ltb-true i n (and-left _ _ (sym expression ∙ e))
 
-    pub own-constant : {k : ℕ} → k ≡ kindAt t i → (ltb k 2 || eqb k 15) ≡ isConst (programOf s .look f i)
+    pub own-constant : {k : ℕ} → k ≡ kindAt t i → isConstant k ≡ isConst (programOf s .look f i)
     unfolding programOf
     own-constant e = rw (e, p .part) (constant _ i)
 
@@ -61,32 +61,25 @@ module _ {s : List ℕ} {f : ℕ} {t : List ℕ} {n : ℕ} (p : Part s f t n) wh
 
     -- ---- statements
 
-    -- a node of kind 7 to 14 is not stray
-    stray-kind : i < n → (0 < i → (kindAt t i < 6) ⊎ (15 ≤ kindAt t i)) → 7 ≤ kindAt t i → kindAt t i < 15 → ⊥
-    stray-kind l z a b =
-        ⊎-elim (λ (q : kindAt t i < 6). omega arith) (λ (q : 15 ≤ kindAt t i). omega arith) (z (inner (kindAt t i) (nodes p) l refl (omega arith) (omega arith)))
+    -- a statement with children is not the first node, so it is not stray
+    stray-kind : i < n → (0 < i → isStatement (kindAt t i) ≡ false) → isStatement (kindAt t i) ≡ false
+    stray-kind l z = by (isStatement (kindAt t i)) (λ e. z (inner (kindAt t i) (nodes p) l refl e)) (λ e. e)
 
     -- a test of a node's form agrees with one of its kind
     same-form : (own : Bool) (test : StmtForm → Bool) → (i < n → own ≡ test (formAt t i)) → ltb i n && own ≡ ltb i n && test (formAt t i)
     same-form own test h = by (ltb i n) (λ e. rw e (h (ltb-true _ _ e))) (λ e. rw e)
 
-    pub node-sort : ltb i n && (leb 7 (kindAt t i) && leb (kindAt t i) 14) ≡ stmtIn (programOf s) f (node i)
+    pub node-sort : ltb i n && isStatement (kindAt t i) ≡ stmtIn (programOf s) f (node i)
     unfolding programOf seeAt
     node-sort =
-        same-form (leb 7 (kindAt t i) && leb (kindAt t i) 14) (λ x. not (isNop x) && isStmt x)
-        (λ l. by-form t i (λ x. (leb 7 (kindAt t i) && leb (kindAt t i) 14) ≡ not (isNop x) && isStmt x) (λ e. rw e)
+        same-form (isStatement (kindAt t i)) (λ x. not (isNop x) && isStmt x)
+        (λ l. by-form t i (λ x. isStatement (kindAt t i) ≡ not (isNop x) && isStmt x) (λ e. rw e)
         (λ e q. rw e) (λ e q. rw e) (λ e q. rw e) (λ e q. rw e) (λ e q. rw e) (λ e q. rw e) (λ e q. rw e) (λ e q. rw e)
-        (λ k z. by (leb 7 (kindAt t i) && leb (kindAt t i) 14)
-        (λ e.
-        let u : 7 ≤ kindAt t i = leb-true _ _ (and-left _ _ e) in
-        let v : kindAt t i ≤ 14 = leb-true _ _ (and-right (leb 7 (kindAt t i)) _ e) in
-        absurd (stray-kind l z u (omega arith)))
-        (λ e. e)))
+        (λ k z. stray-kind l z))
         ∙ rw (p .part, p .count, and-assoc)
 
-    stray-loop : i < n → (0 < i → (kindAt t i < 6) ⊎ (15 ≤ kindAt t i)) → eqb (kindAt t i) 11 ≡ false
-    stray-loop l z =
-        by (eqb (kindAt t i) 11) (λ e. let u : kindAt t i ≡ 11 = eqb-true _ _ e in absurd (stray-kind l z (omega arith) (omega arith))) (λ e. e)
+    stray-loop : i < n → (0 < i → isStatement (kindAt t i) ≡ false) → eqb (kindAt t i) 11 ≡ false
+    stray-loop l z = by (eqb (kindAt t i) 11) (λ e. clash (isStatement (kindAt t i)) (rw (eqb-true (kindAt t i) 11 e)) (stray-kind l z)) (λ e. e)
 
     pub if-sort : ltb i n && eqb (kindAt t i) 11 ≡ stmtIn (programOf s) f (ifOf i)
     unfolding programOf seeAt ifForm

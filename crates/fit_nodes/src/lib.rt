@@ -3,11 +3,12 @@ use records::format::VARIABLE_ENTRIES;
 use records::nodes::kind_at;
 use state_words::Ref;
 ghost use mathlib.Core.Path.{_≡_};
-ghost use mathlib.Core.Bool.{true, _&&_, _||_};
+ghost use mathlib.Core.Bool.{true, _&&_};
 ghost use Prim.Native.Nat.{_*_, _≤_, _<_};
-ghost use lib.Dec.{eqb, leb, ltb};
+ghost use lib.Dec.{eqb, ltb};
 ghost use lib.ListN.{length};
 ghost use Rattle.records.specs.Fields.{varsOf, kindAt};
+ghost use Rattle.spec_language.specs.KindLists.{isConstant, isStatement};
 ghost use Rattle.check_scopes.specs.Counts.{Decls};
 ghost use Rattle.spec_machine.specs.Program.{typeOfVar, typeN};
 ghost use Rattle.spec_machine.specs.Fit.{isConst};
@@ -18,7 +19,7 @@ ghost use Rattle.fit_nodes.specs.Part.{Part};
 
 // Whether a kind is a statement's, but for nop's, which no reference names by its node; by kind.
 fn is_statement_kind(kind: u8) -> bool
-    ensures { λ r. ⌜ r ≡ leb 7 kind && leb kind 14 ⌝ }
+    ensures { λ r. ⌜ r ≡ isStatement kind ⌝ }
 {
     match kind {
         7..=14 => true,
@@ -29,7 +30,7 @@ fn is_statement_kind(kind: u8) -> bool
 // Whether node i is one of the part's, and of such a kind.
 fn is_statement_node(part: &[u8], n: usize, i: u32) -> bool
     requires { ⌜ 12 * n ≤ length (now part) ⌝ }
-    ensures { λ r. ⌜ r ≡ ltb i n && (leb 7 (kindAt (now (part .entry)) i) && leb (kindAt (now (part .entry)) i) 14) ⌝ }
+    ensures { λ r. ⌜ r ≡ ltb i n && isStatement (kindAt (now (part .entry)) i) ⌝ }
 {
     let at = i as usize;
     if n <= at {
@@ -88,7 +89,7 @@ pub fn is_expression(file: &[u8], f: usize, part: &[u8], n: usize, i: u32) -> bo
 
 // Whether a kind is a constant's; by kind.
 fn is_constant_kind(kind: u8) -> bool
-    ensures { λ r. ⌜ r ≡ ltb kind 2 || eqb kind 15 ⌝ }
+    ensures { λ r. ⌜ r ≡ isConstant kind ⌝ }
 {
     match kind {
         0..=1 => true,

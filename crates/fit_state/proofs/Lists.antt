@@ -77,24 +77,24 @@ pub under-is : (m : List ℕ) (a high : ℕ) → 0 < a → (k : ℕ) → k ≡ g
 under-is m a high here k e h =
     rw (activation-in m (a - 1) (getD m (activationAt (a - 1) + 0) 0) k (getD m (activationAt (a - 1) + 2) 0) refl e refl) (rest m high k h)
 
-module _ (P : Program) (m : List ℕ) (f a high : ℕ) (here : 0 < a) where
+module _ (P : Program) (m : List ℕ) (e f a high : ℕ) (here : 0 < a) where
   abbrev x : Activation
   x = activationIn m (a - 1)
 
-  opened : callersFit P f (activationsTo m a) (framesTo m high)
-      ≡ (activationFit P (calls (P .fun f .result)) x (framesTo m high) && callersFit P (functionOf x) (activationsTo m (a - 1)) (framesUnder x (framesTo m high)))
-  opened = let z : a ≡ suc (a - 1) = omega arith in ap (λ (n : ℕ). callersFit P f (activationsTo m n) (framesTo m high)) z
+  opened : callersFit P e f (activationsTo m a) (framesTo m high)
+      ≡ (activationFit P (calls (P .fun f .result)) x (framesTo m high) && callersFit P e (functionOf x) (activationsTo m (a - 1)) (framesUnder x (framesTo m high)))
+  opened = let z : a ≡ suc (a - 1) = omega arith in ap (λ (n : ℕ). callersFit P e f (activationsTo m n) (framesTo m high)) z
 
-  pub callers-less : activationFit P (calls (P .fun f .result)) x (framesTo m high) ≡ false → callersFit P f (activationsTo m a) (framesTo m high) ≡ false
-  callers-less e = opened ∙ rw e
+  pub callers-less : activationFit P (calls (P .fun f .result)) x (framesTo m high) ≡ false → callersFit P e f (activationsTo m a) (framesTo m high) ≡ false
+  callers-less q = opened ∙ rw q
 
   pub callers-more : (g k : ℕ) → g ≡ getD m (activationAt (a - 1) + 0) 0 → k ≡ getD m (activationAt (a - 1) + 1) 0 → k ≤ high
       → activationFit P (calls (P .fun f .result)) x (framesTo m high) ≡ true
-      → callersFit P f (activationsTo m a) (framesTo m high) ≡ callersFit P g (activationsTo m (a - 1)) (framesTo m (high - k))
-  callers-more g k eg ek h e = opened ∙ rw (e, function-of m (a - 1) g eg, under-is m a high here k ek h)
+      → callersFit P e f (activationsTo m a) (framesTo m high) ≡ callersFit P e g (activationsTo m (a - 1)) (framesTo m (high - k))
+  callers-more g k eg ek h q = opened ∙ rw (q, function-of m (a - 1) g eg, under-is m a high here k ek h)
 
-pub callers-end : (P : Program) (m : List ℕ) (f a : ℕ) (F : List Frame) → a ≡ 0 → callersFit P f (activationsTo m a) F ≡ eqb f 0
-callers-end P m f a F e = rw e
+pub callers-end : (P : Program) (m : List ℕ) (e f a : ℕ) (F : List Frame) → a ≡ 0 → callersFit P e f (activationsTo m a) F ≡ eqb f e
+callers-end P m e f a F z = rw z
 
 -- an activation that is fit is of a function of the program
 pub fit-known : (P : Program) (o : Over) (m : List ℕ) (a : ℕ) (F : List Frame) (f : ℕ) → f ≡ getD m (activationAt a + 0) 0

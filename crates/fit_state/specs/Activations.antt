@@ -1,16 +1,16 @@
--- The activations of a running state, tested from the current one down.
+-- The activations of a running state, tested from the current one down, and the entry function of a state.
 use mathlib.Core.Bool.{Bool, true, _&&_}
-use mathlib.Core.List.{List, [], _∷_}
+use mathlib.Core.List.{List, [], _∷_, map}
 use Prim.Native.Nat.{ℕ}
 use lib.Dec.{eqb}
 use lib.ListN.{take, drop}
 use Rattle.varset.specs.Sets.{Set}
 use Rattle.words.specs.Stacks.{chain}
-use Rattle.spec_machine.specs.Values.{Ty}
+use Rattle.spec_machine.specs.Values.{Ty, typeV}
 use Rattle.spec_machine.specs.Program.{Program, varTypes}
-use Rattle.spec_machine.specs.Machine.{Frame, Control}
+use Rattle.spec_machine.specs.Machine.{Frame, Control, State, exception, calling, returned, running, arguments}
 use Rattle.spec_machine.specs.Fit.{held}
-use Rattle.spec_machine.specs.Test.{hasFunction, allHoldTyped}
+use Rattle.spec_machine.specs.Test.{areTy, hasFunction, allHoldTyped, isEntry}
 use Rattle.spec_image.specs.Layout.{Activation, activation}
 use Rattle.fit_frames.specs.Incoming.{Incoming, giving, frameFits, handsOn, ends, startOk, start}
 
@@ -44,12 +44,20 @@ functionOf (activation f k η) = f
 abbrev pub framesUnder : Activation → List Frame → List Frame
 framesUnder (activation f k η) F = drop k F
 
--- the callers of function f, the last first; the outermost is main
-abbrev pub callersFit : Program → ℕ → List Activation → List Frame → Bool
-callersFit P f [] F = eqb f 0
-callersFit P f (x ∷ X) F = activationFit P (calls (P .fun f .result)) x F && callersFit P (functionOf x) X (framesUnder x F)
+-- the callers of function f, the last first; the outermost is the entry function e
+abbrev pub callersFit : Program → ℕ → ℕ → List Activation → List Frame → Bool
+callersFit P e f [] F = eqb f e
+callersFit P e f (x ∷ X) F = activationFit P (calls (P .fun f .result)) x F && callersFit P e (functionOf x) X (framesUnder x F)
 
 -- the activations under a control
-abbrev pub runningFit : Program → Control → List Activation → List Frame → Bool
-runningFit P c [] F = true
-runningFit P c (x ∷ X) F = activationFit P (at c) x F && callersFit P (functionOf x) X (framesUnder x F)
+abbrev pub runningFit : Program → ℕ → Control → List Activation → List Frame → Bool
+runningFit P e c [] F = true
+runningFit P e c (x ∷ X) F = activationFit P (at c) x F && callersFit P e (functionOf x) X (framesUnder x F)
+
+-- a run may be started with the entry function, and its call has the arguments that it takes
+abbrev pub entryFit : Program → State → Bool
+entryFit P (State.value c) = true
+entryFit P (exception x) = true
+entryFit P (calling α o) = isEntry P (α .entry) && areTy (P .fun (α .entry) .params) (map typeV (arguments o))
+entryFit P (returned α c) = isEntry P (α .entry)
+entryFit P (running c α f η K A) = isEntry P (α .entry)

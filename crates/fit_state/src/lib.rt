@@ -28,6 +28,8 @@ use state_words::Control;
 use state_words::activations::activation_word;
 use state_words::activations::frames_held;
 use state_words::control_of;
+use state_words::layout::ENTRY;
+use state_words::layout::TAG_CALL;
 use state_words::layout::TAG_RUNNING;
 use varset::VarSet;
 ghost use mathlib.Core.Path.{_≡_};
@@ -35,7 +37,7 @@ ghost use mathlib.Core.Bool.{true, _&&_};
 ghost use mathlib.Core.List.{List, _++_};
 ghost use Prim.Native.Nat.{ℕ, _+_, _*_, _≤_, _<_};
 ghost use lib.ListN.{length, getD};
-ghost use Rattle.spec_image.specs.Sizes.{callerRoom, frameSize, frameRoom, framesAt, size, variableRoom};
+ghost use Rattle.spec_image.specs.Sizes.{callerRoom, entryAt, frameSize, frameRoom, framesAt, size, variableRoom};
 ghost use Rattle.varset.specs.Sets.{has};
 ghost use Rattle.records.specs.Fields.{functions, varsOf, countOf};
 ghost use Rattle.records.specs.Parts.{partOf};
@@ -46,7 +48,7 @@ ghost use Rattle.spec_machine.specs.Program.{varTypes};
 ghost use Rattle.spec_machine.specs.Machine.{State};
 ghost use Rattle.spec_machine.specs.Fit.{held, WithinLimits};
 ghost use Rattle.spec_machine.specs.File.{programOf};
-ghost use Rattle.spec_machine.specs.Test.{allHoldTyped, fit};
+ghost use Rattle.spec_machine.specs.Test.{allHoldTyped, fit, isEntry};
 ghost use Rattle.spec_image.specs.Image.{image};
 ghost use Rattle.spec_image.specs.Decode.{frameOf, framesHeld, activationsTo, heldIn};
 ghost use Rattle.spec_image.specs.Narrow.{Narrow};
@@ -55,7 +57,7 @@ ghost use Rattle.check_summary.specs.Tables.{RowsFilled, TableSays};
 ghost use Rattle.fit_nodes.specs.Part.{Part};
 ghost use Rattle.records.specs.Starts.{Starts};
 ghost use Rattle.fit_state.specs.HoldsState.{HoldsState};
-ghost use Rattle.fit_state.specs.Activations.{framesFit, activationFit, callersFit};
+ghost use Rattle.fit_state.specs.Activations.{framesFit, activationFit, callersFit, entryFit};
 ghost use Rattle.fit_state.specs.Meaning.{overIs, OverAnswer, variablesIn, activationIn, framesTo};
 
 // What stands over an activation's frames: the control, or a callee that gives a result of a type.
@@ -208,7 +210,7 @@ fn callers_fit(
 ) -> bool
     requires file { ⌜ (checkOf (now file) ≡ accepted) × Starts (now file) (now starts) × (f < functions (now file)) ⌝ }
     requires room { ⌜ (size ≤ length (now m)) × (n ≤ callerRoom) × (high ≡ heldIn (now m) n) × (high ≤ frameRoom) × ((g : ℕ) → g < functions (now file) → 5 * countOf (now file) g ≤ length (now table)) × RowsFilled (partOf (now file) f) (now table) (countOf (now file) f) ⌝ }
-    ensures { λ r. ⌜ r ≡ callersFit (programOf (now (file .entry))) f (activationsTo (now (m .entry)) n) (framesTo (now (m .entry)) high) ⌝ }
+    ensures { λ r. ⌜ r ≡ callersFit (programOf (now (file .entry))) (getD (now (m .entry)) entryAt 0) f (activationsTo (now (m .entry)) n) (framesTo (now (m .entry)) high) ⌝ }
 {
     let mut a = n;
     let mut g = f;
@@ -222,12 +224,12 @@ fn callers_fit(
         g = activation_word(m, a, 0) as usize;
         top -= activation_word(m, a, 1) as usize;
     }
-    g == 0
+    g == m[ENTRY] as usize
 }
 
 // Whether the running state that the memory holds is fit for the program of the file, with a table for its parts.
 fn running_fits(file: &[u8], table: &mut [u64], m: &[u32]) -> bool
-    requires file { ⌜ (checkOf (now file) ≡ accepted) × (size ≤ length (now m)) × HoldsState (now m) × (getD (now m) 0 0 ≡ 2) ⌝ }
+    requires file { ⌜ (checkOf (now file) ≡ accepted) × (size ≤ length (now m)) × HoldsState (now m) × (getD (now m) 0 0 ≡ 2) × (isEntry (programOf (now file)) (getD (now m) entryAt 0) ≡ true) ⌝ }
     requires table { ⌜ ((g : ℕ) → g < functions (now file) → 5 * countOf (now file) g ≤ length (now table)) ⌝ }
     ensures { λ r. ⌜ ((s : State) (R : List ℕ) → now (m .entry) ≡ image s ++ R → WithinLimits s → Narrow s → r ≡ fit (programOf (now (file .entry))) s) ⌝ }
 {
@@ -253,11 +255,22 @@ fn running_fits(file: &[u8], table: &mut [u64], m: &[u32]) -> bool
     callers_fit(file, &starts, table, m, a, high - k, f)
 }
 
+// Whether the run of the state that the memory holds was started with main, which takes no argument.
+fn entry_fits(m: &[u32]) -> bool
+    requires { ⌜ size ≤ length (now m) ⌝ }
+    ensures { λ r. ⌜ ((b : List ℕ) → checkOf b ≡ accepted → (s : State) (R : List ℕ) → now (m .entry) ≡ image s ++ R → WithinLimits s → r ≡ entryFit (programOf b) s) ⌝ }
+{
+    (m[ENTRY] == 0) & (m[0] != TAG_CALL)
+}
+
 // Whether the state that the memory holds is fit for the program of the file.
 pub fn fits(file: &[u8], m: &[u32]) -> bool
     requires { ⌜ (checkOf (now file) ≡ accepted) × (size ≤ length (now m)) × HoldsState (now m) ⌝ }
     ensures { λ r. ⌜ ((s : State) (R : List ℕ) → now (m .entry) ≡ image s ++ R → WithinLimits s → Narrow s → r ≡ fit (programOf (now (file .entry))) s) ⌝ }
 {
+    if !entry_fits(m) {
+        return false;
+    }
     if m[0] != TAG_RUNNING {
         return true;
     }

@@ -11,13 +11,13 @@ use Rattle.spec_machine.specs.Machine.{State}
 use Rattle.spec_machine.specs.Fit.{WithinLimits}
 use Rattle.spec_image.specs.Sizes.{framesAt, size}
 use Rattle.spec_image.specs.Layout.{filled, frameWords, activationWords}
-use Rattle.spec_image.specs.Image.{headWords, activationsOf, framesOf, image}
+use Rattle.spec_image.specs.Image.{headWords, activationsOf, framesOf, envPart, image}
 use Rattle.spec_image.specs.Decode.{framesHeld, activationsIn, heldIn}
 use Rattle.spec_image.proofs.BlockLengths.{length-filled, zeros-at, frame-wide, activation-wide}
-use Rattle.spec_image.proofs.Images.{few-activations, few-frames, frames-held, head-word, count-in, activations-in, image-length}
+use Rattle.spec_image.proofs.Images.{few-activations, few-frames, frames-held, head-word, count-in, activations-in, env-in, image-length}
 use Rattle.spec_image.proofs.Memory.{whole-held}
 use Rattle.fit_state.specs.HoldsState.{HoldsState}
-use Rattle.log_records.specs.Ranges.{Alike, Within}
+use Rattle.log_records.specs.Ranges.{Alike, NoEnv, Within}
 
 zeros-twice : (m n j : ℕ) → _≡_ {A = ℕ} (getD (replicate m 0 ++ replicate n 0) j 0) 0
 zeros-twice zero n j = zeros-at n j
@@ -41,7 +41,7 @@ module _ (s : State) (w : WithinLimits s) where
   upper = words frameWords (framesOf s)
 
   abbrev end : List ℕ
-  end = replicate ((512 - held) * 20) 0 ++ replicate 1664 0
+  end = replicate ((512 - held) * 20) 0 ++ envPart s
 
   in-four : image s ≡ lower ++ (gap ++ (upper ++ end))
   unfolding image
@@ -66,19 +66,19 @@ module _ (s : State) (w : WithinLimits s) where
       rw (in-four, ← e) (getD-append-add lower (gap ++ (upper ++ end)) j 0 ∙ (List·getD-append gap (upper ++ end) 0 j l ∙ zeros-at ((32 - acts) * 136) j))
 
   -- behind the frames
-  end-zero : (i : ℕ) → framesAt + held * 20 ≤ i → getD (image s) i 0 ≡ 0
-  end-zero i h =
+  end-zero : envPart s ≡ replicate 1664 0 → (i : ℕ) → framesAt + held * 20 ≤ i → getD (image s) i 0 ≡ 0
+  end-zero z i h =
       let j : ℕ = i - (framesAt + held * 20) in
       let l : length (lower ++ (gap ++ upper)) ≡ length lower + (length gap + length upper) = simp length-append in
       let e : length (lower ++ (gap ++ upper)) + j ≡ i = omega (arith, l, lower-length, gap-length, upper-length, few-activations s w) in
       let p : image s ≡ (lower ++ (gap ++ upper)) ++ end = in-four ∙ simp append-assoc in
-      rw (p, ← e) (getD-append-add (lower ++ (gap ++ upper)) end j 0 ∙ zeros-twice ((512 - held) * 20) 1664 j)
+      rw (p, ← e) (getD-append-add (lower ++ (gap ++ upper)) end j 0 ∙ rw z (zeros-twice ((512 - held) * 20) 1664 j))
 
-  pub image-within : Within (128 + acts * 136) (framesAt + held * 20) (image s)
-  image-within =
+  pub image-within : envPart s ≡ replicate 1664 0 → Within (128 + acts * 136) (framesAt + held * 20) (image s)
+  image-within z =
       let a = few-activations s w in
       let f = few-frames s w in
-      record { long = image-length s w; low = omega arith; high = (omega arith, omega arith); between = gap-zero; above = end-zero }
+      record { long = image-length s w; low = omega arith; high = (omega arith, omega arith); between = gap-zero; above = end-zero z }
 
 module _ (m : List ℕ) (h : HoldsState m) where
   -- the count of activations in the head, and of their frames
@@ -94,10 +94,11 @@ module _ (m : List ℕ) (h : HoldsState m) where
   pub few-there : (getD m 2 0 ≤ 32) × (heldIn m (getD m 2 0) ≤ 512)
   few-there = (omega (arith, count-there, few-activations (h .state) (h .within)), omega (arith, frames-there, few-frames (h .state) (h .within)))
 
-  pub extent-is : {n k : ℕ} → n ≡ getD m 2 0 → k ≡ heldIn m (getD m 2 0) → Within (128 + n * 136) (4480 + k * 20) (take size m)
-  extent-is e f =
+  pub extent-is : {n k : ℕ} → NoEnv m → n ≡ getD m 2 0 → k ≡ heldIn m (getD m 2 0) → Within (128 + n * 136) (4480 + k * 20) (take size m)
+  extent-is o e f =
+      let z : envPart (h .state) ≡ replicate 1664 0 = sym (env-in (h .state) (h .rest) (h .within)) ∙ (rw (h .held) at o) in
       let t : take size m ≡ image (h .state) = ap (λ (l : List ℕ). take size l) (h .held) ∙ whole-held (h .state) (h .rest) (h .within) .0 in
-      rw (t, e ∙ count-there, f ∙ frames-there) (image-within (h .state) (h .within))
+      rw (t, e ∙ count-there, f ∙ frames-there) (image-within (h .state) (h .within) z)
 
 -- two images that are zero in a part are alike there
 module _ {p q p′ q′ : ℕ} {a b : List ℕ} (x : Within p q a) (y : Within p′ q′ b) where

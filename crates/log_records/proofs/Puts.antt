@@ -85,10 +85,10 @@ module _ {log₀ : List ℕ} {at o : ℕ} {a₀ b log a : List ℕ} {next i : �
       omega (arith, p .room, p .long, z)
 
   -- it is put
-  pub other-put : ¬ (getD a i 0 ≡ getD b i 0) → (log₁ a₁ : List ℕ) (next₁ : ℕ) → log₁ ≡ puts log next 0 (two (o + i) ++ four (getD a i 0)) → a₁ ≡ set a i (getD b i 0)
-      → next₁ ≡ next + 6 → Putting log₀ at o a₀ b log₁ a₁ next₁ (i + 1)
+  pub other-put : (log₁ a₁ : List ℕ) (next₁ : ℕ) → log₁ ≡ puts log next 0 (two (o + i) ++ four (getD a i 0)) → a₁ ≡ set a i (getD b i 0)
+      → next₁ ≡ next + 6 → ¬ (getD a i 0 ≡ getD b i 0) → Putting log₀ at o a₀ b log₁ a₁ next₁ (i + 1)
   unfolding changeBytes
-  other-put r log₁ a₁ next₁ u w f =
+  other-put log₁ a₁ next₁ u w f r =
       let q : ¬ (getD a₀ i 0 ≡ getD b i 0) = λ s. r (word-is ∙ s) in
       let n : suc i ≡ i + 1 = omega arith in
       let m : suc (o + i) ≡ o + suc i = omega arith in

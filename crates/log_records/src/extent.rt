@@ -9,7 +9,7 @@ ghost use Prim.Native.Nat.{ℕ, _≤_, max};
 ghost use lib.ListN.{length, take};
 ghost use Rattle.spec_image.specs.Sizes.{size};
 ghost use Rattle.fit_state.specs.HoldsState.{HoldsState};
-ghost use Rattle.log_records.specs.Ranges.{Alike, Within};
+ghost use Rattle.log_records.specs.Ranges.{Alike, NoEnv, Within};
 
 // The end of the activations, and the end of the frames.
 pub struct Extent {
@@ -19,7 +19,7 @@ pub struct Extent {
 
 // The extent of the state in a memory.
 pub fn extent_of(m: &[u32]) -> Extent
-    requires { ⌜ HoldsState (now m) × (size ≤ length (now m)) ⌝ }
+    requires { ⌜ HoldsState (now m) × (size ≤ length (now m)) × NoEnv (now m) ⌝ }
     ensures { λ r. ⌜ Within (r .low) (r .high) (take size (now (m .entry))) ⌝ }
 {
     let n = m[2] as usize;

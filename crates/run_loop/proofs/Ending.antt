@@ -1,57 +1,74 @@
 -- How runs end.
-use mathlib.Core.Path.{_≡_, refl, ap, _∙_}
+use mathlib.Core.Path.{_≡_, refl, sym, ap, subst, _∙_}
 use mathlib.Core.Bool.{true, false}
-use mathlib.Core.List.{List, [], _∷_, _++_}
+use mathlib.Core.List.{List, [], _∷_, _++_, append-assoc}
 use Prim.Native.Nat.{ℕ, zero, suc, _+_, _-_, _≤_, _<_}
 use native.Mathlib.Omega.{arith}
-use lib.ListN.{replicate}
+use lib.ListN.{replicate, replicate-append-replicate}
 use Rattle.varset.specs.Lowest.{pick}
 use Rattle.words.specs.Blocks.{puts}
 use Rattle.arith.specs.Int.{int}
 use Rattle.spec_machine.specs.Values.{Value}
 use Rattle.spec_machine.specs.Program.{Program}
 use Rattle.spec_machine.specs.Machine as machine
-use Rattle.spec_machine.specs.Machine.{Frame, Control, Saved, emptyEnv, State, running, Rule}
+use Rattle.spec_machine.specs.Machine.{Frame, Control, Saved, RunEnv, State, running, Rule}
 use Rattle.spec_machine.specs.Next.{Move, goes, next}
 use Rattle.spec_machine.specs.Run as run
 use Rattle.spec_machine.specs.Run.{withinLimits, onward, runOf}
-use Rattle.spec_image.specs.Layout.{filled}
-use Rattle.spec_image.specs.Image.{headWords, activationsOf, framesOf, image}
+use Rattle.spec_image.specs.Layout.{filled, envWords}
+use Rattle.spec_image.specs.Image.{headWords, activationsOf, framesOf, envPart, image, exceptionTag}
+use Rattle.spec_image.proofs.Images.{env-zero}
 use Rattle.spec_image.proofs.Heads.{rooms-head, image-rooms, empty-rooms}
-use Rattle.run_rules.specs.StepsTo.{Cleared}
 use Rattle.run_loop.specs.declared.Outcome.{Outcome}
 use Rattle.run_loop.specs.declared.Outcome.the-variants as code
-use Rattle.run_loop.specs.Runs.{outcomeOf, Ends, Rests}
+use Rattle.run_loop.specs.Runs.{outcomeOf, Ends, Emptied, Wiped, Rests}
 
 -- ---- states without activations
 
-pub returned-rests : (c : ℕ) → Rests (machine.returned emptyEnv c) 3 c
+pub returned-rests : (α : RunEnv) (c : ℕ) → Rests (machine.returned α c) 3 c
 unfolding headWords activationsOf framesOf
-returned-rests c = record { head = refl; activations = refl; frames = refl }
+returned-rests α c = record { head = refl; activations = refl; frames = refl }
 
 pub value-rests : (c : ℕ) → Rests (State.value c) 4 c
 unfolding headWords activationsOf framesOf
 value-rests c = record { head = refl; activations = refl; frames = refl }
 
-pub arith-rests : Rests (machine.exception machine.arith) 5 0
+pub raised-rests : (x : machine.Exception) → Rests (machine.exception x) (exceptionTag x) 0
 unfolding headWords activationsOf framesOf filled
-arith-rests = record { head = refl; activations = refl; frames = refl }
-
-pub abort-rests : Rests (machine.exception machine.abort) 6 0
-unfolding headWords activationsOf framesOf filled
-abort-rests = record { head = refl; activations = refl; frames = refl }
+raised-rests x = record { head = refl; activations = refl; frames = refl }
 
 no-head : replicate {A = ℕ} 128 0 ≡ filled 128 []
 unfolding filled
 no-head = refl
 
-pub rest-stored : (s : State) (m R : List ℕ) (tag word : ℕ) → Cleared m R → Rests s tag word → puts m 0 0 (tag ∷ word ∷ []) ≡ image s ++ R
+pub rest-stored : (s : State) (m R : List ℕ) (tag word : ℕ) → Emptied m (envPart s ++ R) → Rests s tag word → puts m 0 0 (tag ∷ word ∷ []) ≡ image s ++ R
 rest-stored s m R tag word c r =
-    stored 16384 refl
+    stored 14720 refl
   where
-    stored : (z : ℕ) → z ≡ 16384 → puts m 0 0 (tag ∷ word ∷ []) ≡ image s ++ R
+    stored : (z : ℕ) → z ≡ 14720 → puts m 0 0 (tag ∷ word ∷ []) ≡ image s ++ R
     stored z all =
-        rw (c z all, ← empty-rooms z all, image-rooms s, r .activations, r .frames, r .head, no-head) (rooms-head R [] [] [] (tag ∷ word ∷ []) (omega arith) (omega arith))
+        rw (c z all, ← empty-rooms z all, image-rooms s R, r .activations, r .frames, r .head, no-head) (rooms-head (envPart s ++ R) [] [] [] (tag ∷ word ∷ []) (omega arith) (omega arith))
+
+-- ---- the environment at the end
+
+-- words that are all zero are zero before and after the environment begins
+wiped-emptied : (m R : List ℕ) → Wiped m R → Emptied m (replicate 1664 0 ++ R)
+wiped-emptied m R c z all =
+    let n : z + 1664 ≡ 16384 = omega arith in
+    c (z + 1664) n ∙ ap (λ (l : List ℕ). l ++ R) (sym (replicate-append-replicate {A = ℕ} z 1664 0)) ∙ append-assoc (replicate z 0) (replicate 1664 0) R
+
+-- what a value, and a return, are put into
+pub value-emptied : (α : RunEnv) (w : ℕ) (m R : List ℕ) → α .entry ≡ 0 → Emptied m (envWords α ++ R) → Emptied m (envPart (State.value w) ++ R)
+unfolding envPart
+value-emptied α w m R n c = subst (λ (l : List ℕ). Emptied m (l ++ R)) (env-zero α n) c
+
+pub returned-emptied : (α : RunEnv) (w : ℕ) (m R : List ℕ) → Emptied m (envWords α ++ R) → Emptied m (envPart (machine.returned α w) ++ R)
+unfolding envPart
+returned-emptied α w m R c = c
+
+pub raised-emptied : (x : machine.Exception) (m R : List ℕ) → Wiped m R → Emptied m (envPart (machine.exception x) ++ R)
+unfolding envPart
+raised-emptied x m R c = wiped-emptied m R c
 
 -- ---- one step, and the run after it
 
@@ -79,16 +96,16 @@ module _ (P : Program) (n k : ℕ) (s t : State) (r : Rule) (less : k < n) (e : 
 -- ---- where a run stops
 
 module _ (P : Program) where
-  pub ends-spent : (n k : ℕ) (c : Control) (f : ℕ) (η : List Value) (K : List Frame) (A : List Saved) (m R : List ℕ) → n ≤ k
-      → m ≡ image (running c emptyEnv f η K A) ++ R → Ends k (runOf P (n - k) (running c emptyEnv f η K A)) code.Spent k m R
+  pub ends-spent : (n k : ℕ) (c : Control) (α : RunEnv) (f : ℕ) (η : List Value) (K : List Frame) (A : List Saved) (m R : List ℕ) → n ≤ k
+      → m ≡ image (running c α f η K A) ++ R → Ends k (runOf P (n - k) (running c α f η K A)) code.Spent k m R
   unfolding runOf outcomeOf
-  ends-spent n k c f η K A m R h q =
+  ends-spent n k c α f η K A m R h q =
       let z : n - k ≡ 0 = omega arith in
       rw z (record { outcome-is = refl; steps-are = omega arith; held = q })
 
-  pub ends-returned : (n k w : ℕ) (m R : List ℕ) → n ≤ k → m ≡ image (machine.returned emptyEnv w) ++ R → Ends k (runOf P (n - k) (machine.returned emptyEnv w)) code.Spent k m R
+  pub ends-returned : (n k : ℕ) (α : RunEnv) (w : ℕ) (m R : List ℕ) → n ≤ k → m ≡ image (machine.returned α w) ++ R → Ends k (runOf P (n - k) (machine.returned α w)) code.Spent k m R
   unfolding runOf outcomeOf
-  ends-returned n k w m R h q =
+  ends-returned n k α w m R h q =
       let z : n - k ≡ 0 = omega arith in
       rw z (record { outcome-is = refl; steps-are = omega arith; held = q })
 

@@ -10,13 +10,13 @@ use Rattle.records.specs.Parts.{startOf}
 use Rattle.words.specs.Stacks.{total}
 use Rattle.spec_language.specs.Check.{accepted, checkOf}
 use Rattle.spec_machine.specs.Values.{Value}
-use Rattle.spec_machine.specs.Machine.{Frame, Control, Saved, emptyEnv, running}
+use Rattle.spec_machine.specs.Machine.{Frame, Control, Saved, RunEnv, running}
 use Rattle.spec_machine.specs.Run.{runOf}
 use Rattle.spec_machine.specs.Fit.{Fit}
 use Rattle.spec_machine.specs.File.{programOf}
 use Rattle.spec_image.specs.Sizes.{callerRoom}
-use Rattle.spec_image.specs.Layout.{filled, activation, activationWords}
-use Rattle.spec_image.specs.Image.{savedActivations, savedFrames, headWords, activationsOf, framesOf, image}
+use Rattle.spec_image.specs.Layout.{filled, activation, activationWords, envWords}
+use Rattle.spec_image.specs.Image.{savedActivations, savedFrames, headWords, activationsOf, framesOf, envPart, image}
 use Rattle.spec_image.specs.Decode.{controlOf, framesHeld, heldIn, activationsIn}
 use Rattle.spec_image.specs.Core.{core}
 use Rattle.spec_image.proofs.ValueWords.{control-back}
@@ -34,10 +34,10 @@ use Rattle.run_step.specs.StepsBy.{AtFitState}
 use Rattle.run_loop.specs.declared.Outcome.{Outcome}
 use Rattle.run_loop.specs.Runs.{Ends}
 
-module _ (s : List ℕ) (passed : checkOf s ≡ accepted) (l : List ℕ) (c : Control) (f : ℕ) (η : List Value) (K : List Frame) (A : List Saved) (R : List ℕ)
-    (held : l ≡ image (running c emptyEnv f η K A) ++ R) (fit : Fit (programOf s) (running c emptyEnv f η K A)) where
+module _ (s : List ℕ) (passed : checkOf s ≡ accepted) (l : List ℕ) (c : Control) (α : RunEnv) (f : ℕ) (η : List Value) (K : List Frame) (A : List Saved) (R : List ℕ)
+    (held : l ≡ image (running c α f η K A) ++ R) (fit : Fit (programOf s) (running c α f η K A)) where
   pub resumed-count : getD l 2 0 ≡ suc (length A)
-  resumed-count = rw held (running-word c emptyEnv f η K A R 2 (omega arith))
+  resumed-count = rw held (running-word c α f η K A R 2 (omega arith))
 
   pub resumed-few : length A < callerRoom
   resumed-few = omega (arith, fit .within .0)
@@ -47,7 +47,7 @@ module _ (s : List ℕ) (passed : checkOf s ≡ accepted) (l : List ℕ) (c : Co
   resumed-known = fit .proper .known
 
   pub resumed-control : controlOf (getD l 3 0) (getD l 4 0) ≡ c
-  resumed-control = rw (held, running-word c emptyEnv f η K A R 3 (omega arith), running-word c emptyEnv f η K A R 4 (omega arith)) (control-back c)
+  resumed-control = rw (held, running-word c α f η K A R 3 (omega arith), running-word c α f η K A R 4 (omega arith)) (control-back c)
 
   module _ (a : ℕ) (here : a ≡ getD l 2 0 - 1) where
     pub resumed-callers : a ≡ length A
@@ -56,18 +56,18 @@ module _ (s : List ℕ) (passed : checkOf s ≡ accepted) (l : List ℕ) (c : Co
     pub resumed-function : (b : ℕ) → b ≡ 128 + a * 136 + 0 → getD l b 0 ≡ f
     unfolding activationsOf framesOf activationWords filled
     resumed-function b e =
-        rw (held, e, image-rooms (running c emptyEnv f η K A))
-        (activation-word (filled 128 (headWords (running c emptyEnv f η K A))) R (savedActivations A) (K ++ savedFrames A)
-        (length-filled 128 (headWords (running c emptyEnv f η K A))) a (resumed-callers ∙ sym (length-saved A)) (activation f (length K) η) 0 (omega arith))
+        rw (held, e, image-rooms (running c α f η K A) R)
+        (activation-word (filled 128 (headWords (running c α f η K A))) (envPart (running c α f η K A) ++ R) (savedActivations A) (K ++ savedFrames A)
+        (length-filled 128 (headWords (running c α f η K A))) a (resumed-callers ∙ sym (length-saved A)) (activation f (length K) η) 0 (omega arith))
 
     pub resumed-frames : (b : ℕ) → b ≡ 128 + a * 136 + 1 → getD l b 0 ≡ length K
-    resumed-frames b e = rw held (frame-count c emptyEnv f η K A R a b resumed-callers e)
+    resumed-frames b e = rw held (frame-count c α f η K A R a b resumed-callers e)
 
     -- all frames, from the counts in the activations
     pub resumed-total : heldIn l (a + 1) ≡ length K + length (savedFrames A)
     unfolding activationsIn framesOf
     resumed-total =
-        let σ = running c emptyEnv f η K A in
+        let σ = running c α f η K A in
         let n : a + 1 ≡ getD l 2 0 = omega (arith, here, resumed-count) in
         let t : heldIn l (a + 1) ≡ total framesHeld (activationsIn l) = ap (heldIn l) n in
         let u : total framesHeld (activationsIn l) ≡ length (framesOf σ)
@@ -79,13 +79,14 @@ module _ (s : List ℕ) (passed : checkOf s ≡ accepted) (l : List ℕ) (c : Co
     resumed-describes g st n k u hg hs hn hk hu =
         record { function = hg; start = hs; count = hn; callers = resumed-callers; frames = hk; under = omega (arith, hk, hu, resumed-total) }
 
-    pub resumed-at-fit : (table : List ℕ) (d : code.Control) (h : Registers) (m : List ℕ) → Starts s table → Describes s h f K A → controlIs d ≡ c → m ≡ core f η K A ++ R → AtFitState s table (controlIs d) h m
+    pub resumed-at-fit : (table : List ℕ) (d : code.Control) (h : Registers) (m : List ℕ) → Starts s table → Describes s h f K A → controlIs d ≡ c → m ≡ core f η K A ++ (envWords α ++ R) → AtFitState s table (controlIs d) h m
     resumed-at-fit table d h m i t e k =
         let q = sym (t .function) in
-        let g : Fit (programOf s) (running (controlIs d) emptyEnv f η K A) = rw e fit in
+        let g : Fit (programOf s) (running (controlIs d) α f η K A) = rw e fit in
         record {
           passed = passed;
           starts = i;
+          environment = α;
           variables = η;
           frames = K;
           callers = A;
@@ -96,10 +97,10 @@ module _ (s : List ℕ) (passed : checkOf s ≡ accepted) (l : List ℕ) (c : Co
         }
 
 -- the run of the code's control is the run of the state's
-pub resumed-run : (s : List ℕ) (n : ℕ) (d : code.Control) (o : Outcome) (c : Control) (f : ℕ) (η : List Value) (K : List Frame) (A : List Saved) (st : ℕ) (m R : List ℕ)
-    → controlIs d ≡ c → Fit (programOf s) (running c emptyEnv f η K A)
-    → (Fit (programOf s) (running (controlIs d) emptyEnv f η K A) → Ends 0 (runOf (programOf s) (n - 0) (running (controlIs d) emptyEnv f η K A)) o st m R)
-    → Ends 0 (runOf (programOf s) n (running c emptyEnv f η K A)) o st m R
-resumed-run s n d o c f η K A st m R e fit q =
+pub resumed-run : (s : List ℕ) (n : ℕ) (d : code.Control) (o : Outcome) (c : Control) (α : RunEnv) (f : ℕ) (η : List Value) (K : List Frame) (A : List Saved) (st : ℕ) (m R : List ℕ)
+    → controlIs d ≡ c → Fit (programOf s) (running c α f η K A)
+    → (Fit (programOf s) (running (controlIs d) α f η K A) → Ends 0 (runOf (programOf s) (n - 0) (running (controlIs d) α f η K A)) o st m R)
+    → Ends 0 (runOf (programOf s) n (running c α f η K A)) o st m R
+resumed-run s n d o c α f η K A st m R e fit q =
     let z = q (rw e fit) in
     rw (e, sub-zero n) at z

@@ -21,21 +21,23 @@ use state_words::layout::TAG_RUNNING;
 use state_words::layout::TAG_VALUE;
 ghost use mathlib.Core.Path.{_≡_};
 ghost use mathlib.Core.List.{List, _++_};
+ghost use mathlib.Core.Option.{none};
 ghost use Prim.Native.Nat.{ℕ, _+_, _-_, _≤_, _<_};
 ghost use lib.ListN.{length};
 ghost use Rattle.spec_image.specs.Sizes.{size};
 ghost use Rattle.spec_machine.specs.Values as values;
 ghost use Rattle.spec_machine.specs.Program.{Program};
 ghost use Rattle.spec_machine.specs.Machine as machine;
-ghost use Rattle.spec_machine.specs.Machine.{emptyEnv, Frame, Saved, State, running};
-ghost use Rattle.spec_machine.specs.Run.{runOf};
-ghost use Rattle.spec_machine.specs.Fit.{Fit};
+ghost use Rattle.spec_machine.specs.Machine.{RunEnv, Frame, Saved, State, running};
+ghost use Rattle.spec_machine.specs.Run.{raised, runOf};
+ghost use Rattle.spec_machine.specs.Fit.{Entry, Fit};
 ghost use Rattle.spec_machine.specs.File.{programOf};
-ghost use Rattle.spec_image.specs.Image.{image};
+ghost use Rattle.spec_image.specs.Image.{envPart, exceptionTag, image};
+ghost use Rattle.spec_image.specs.Layout.{envWords};
 ghost use Rattle.state_words.specs.Meaning.{controlIs};
-ghost use Rattle.run_rules.specs.StepsTo.{Bounds, Cleared, Holding};
+ghost use Rattle.run_rules.specs.StepsTo.{Bounds};
 ghost use Rattle.run_step.specs.StepsBy.{AtFitState};
-ghost use Rattle.run_loop.specs.Runs.{HoldsFit, AtMain, AtRunning, Ends, Rests};
+ghost use Rattle.run_loop.specs.Runs.{outcomeOf, HoldsFit, AtMain, AtRunning, Ends, Emptied, Wiped, HoldingState, Rests};
 
 // How a run ended.
 pub enum Outcome {
@@ -55,7 +57,7 @@ pub struct Ran {
 // Puts the registers of a running state back into the head of the image.
 fn put_back(m: &mut [u32], c: Control, h: Registers)
     requires { ⌜ Bounds h (now m) ⌝ }
-    ensures { λ _. ⌜ ((s : List ℕ) → Holding s (now (m .entry)) h (λ f η K A R. now (m .exit) ≡ image (running (controlIs c) emptyEnv f η K A) ++ R)) ⌝ }
+    ensures { λ _. ⌜ ((s : List ℕ) → HoldingState s (now (m .entry)) h (λ α f η K A R. now (m .exit) ≡ image (running (controlIs c) α f η K A) ++ R)) ⌝ }
 {
     let a = h.callers;
     let callers = h.callers as u32;
@@ -76,19 +78,19 @@ fn put_back(m: &mut [u32], c: Control, h: Registers)
     }
 }
 
-// Puts the head of a state without activations into words that are all zero.
+// Puts the head of a state without activations into words that are zero before its environment.
 fn put_rest(m: &mut [u32], tag: u32, word: u32)
     requires { ⌜ size ≤ length (now m) ⌝ }
-    ensures { λ _. ⌜ ((s : State) (R : List ℕ) → Cleared (now (m .entry)) R → Rests s tag word → now (m .exit) ≡ image s ++ R) ⌝ }
+    ensures { λ _. ⌜ ((s : State) (R : List ℕ) → Emptied (now (m .entry)) (envPart s ++ R) → Rests s tag word → now (m .exit) ≡ image s ++ R) ⌝ }
 {
     m[0] = tag;
     m[1] = word;
 }
 
-// The end of a run that main has returned an int to, after so many steps.
+// The end of a run whose entry function has returned an int, after so many steps.
 fn finish(m: &mut [u32], word: u32, steps: u64, allowed: u64) -> Ran
     requires { ⌜ (size ≤ length (now m)) × (steps ≤ allowed) ⌝ }
-    ensures { λ r. ⌜ ((P : Program) (R : List ℕ) → Cleared (now (m .entry)) R → Ends steps (runOf P (allowed - steps) (machine.returned emptyEnv word)) (r .outcome) (r .steps) (now (m .exit)) R) ⌝ }
+    ensures { λ r. ⌜ ((P : Program) (α : RunEnv) (R : List ℕ) → Entry P (α .entry) → Emptied (now (m .entry)) (envWords α ++ R) → Ends steps (runOf P (allowed - steps) (machine.returned α word)) (r .outcome) (r .steps) (now (m .exit)) R) ⌝ }
 {
     if steps < allowed {
         put_rest(m, TAG_VALUE, word);
@@ -104,10 +106,10 @@ fn finish(m: &mut [u32], word: u32, steps: u64, allowed: u64) -> Ran
     }
 }
 
-// The end of a run by an exception.
+// The end of a run by an exception, with its tag.
 fn fail(m: &mut [u32], tag: u32, outcome: Outcome, steps: u64) -> Ran
     requires { ⌜ size ≤ length (now m) ⌝ }
-    ensures { λ r. ⌜ (r .outcome ≡ outcome) × (r .steps ≡ steps) × ((s : State) (R : List ℕ) → Cleared (now (m .entry)) R → Rests s tag 0 → now (m .exit) ≡ image s ++ R) ⌝ }
+    ensures { λ r. ⌜ (r .outcome ≡ outcome) × (r .steps ≡ steps) × ((x : machine.Exception) (R : List ℕ) → tag ≡ exceptionTag x → Wiped (now (m .entry)) R → now (m .exit) ≡ image (machine.exception x) ++ R) ⌝ }
 {
     put_rest(m, tag, 0);
     Ran { outcome, steps }
@@ -116,7 +118,7 @@ fn fail(m: &mut [u32], tag: u32, outcome: Outcome, steps: u64) -> Ran
 // The end of a run that stops at a running state.
 fn stop(m: &mut [u32], c: Control, h: Registers, outcome: Outcome, steps: u64) -> Ran
     requires { ⌜ Bounds h (now m) ⌝ }
-    ensures { λ r. ⌜ (r .outcome ≡ outcome) × (r .steps ≡ steps) × ((s : List ℕ) → Holding s (now (m .entry)) h (λ f η K A R. now (m .exit) ≡ image (running (controlIs c) emptyEnv f η K A) ++ R)) ⌝ }
+    ensures { λ r. ⌜ (r .outcome ≡ outcome) × (r .steps ≡ steps) × ((s : List ℕ) → HoldingState s (now (m .entry)) h (λ α f η K A R. now (m .exit) ≡ image (running (controlIs c) α f η K A) ++ R)) ⌝ }
 {
     put_back(m, c, h);
     Ran { outcome, steps }
@@ -133,7 +135,7 @@ fn go(
     allowed: u64,
 ) -> Ran
     requires { ⌜ AtFitState (now file) (now starts) (controlIs from) head (now m) × (size ≤ length (now m)) × (taken ≤ allowed) ⌝ }
-    ensures { λ r. ⌜ Holding (now (file .entry)) (now (m .entry)) head (λ f η K A R. Fit (programOf (now (file .entry))) (running (controlIs from) emptyEnv f η K A) → Ends taken (runOf (programOf (now (file .entry))) (allowed - taken) (running (controlIs from) emptyEnv f η K A)) (r .outcome) (r .steps) (now (m .exit)) R) ⌝ }
+    ensures { λ r. ⌜ HoldingState (now (file .entry)) (now (m .entry)) head (λ α f η K A R. Fit (programOf (now (file .entry))) (running (controlIs from) α f η K A) → Ends taken (runOf (programOf (now (file .entry))) (allowed - taken) (running (controlIs from) α f η K A)) (r .outcome) (r .steps) (now (m .exit)) R) ⌝ }
 {
     let mut c = from;
     let mut h = head;
@@ -154,10 +156,10 @@ fn go(
     stop(m, c, h, Outcome::Spent, steps)
 }
 
-// A run from the int that main has returned.
+// A run from the int that the entry function has returned.
 fn conclude(m: &mut [u32], word: u32, allowed: u64) -> Ran
     requires { ⌜ size ≤ length (now m) ⌝ }
-    ensures { λ r. ⌜ ((P : Program) (R : List ℕ) → now (m .entry) ≡ image (machine.returned emptyEnv word) ++ R → Ends 0 (runOf P allowed (machine.returned emptyEnv word)) (r .outcome) (r .steps) (now (m .exit)) R) ⌝ }
+    ensures { λ r. ⌜ ((P : Program) (α : RunEnv) (R : List ℕ) → Entry P (α .entry) → now (m .entry) ≡ image (machine.returned α word) ++ R → Ends 0 (runOf P allowed (machine.returned α word)) (r .outcome) (r .steps) (now (m .exit)) R) ⌝ }
 {
     m[0] = 0;
     m[1] = 0;
@@ -167,7 +169,7 @@ fn conclude(m: &mut [u32], word: u32, allowed: u64) -> Ran
 // A run from main() with nothing waiting.
 fn begin(file: &[u8], m: &mut [u32], allowed: u64) -> Ran
     requires { ⌜ AtMain (now file) (now m) × (size ≤ length (now m)) ⌝ }
-    ensures { λ r. ⌜ ((R : List ℕ) → now (m .entry) ≡ image (machine.main emptyEnv) ++ R → Ends 0 (runOf (programOf (now (file .entry))) allowed (machine.main emptyEnv)) (r .outcome) (r .steps) (now (m .exit)) R) ⌝ }
+    ensures { λ r. ⌜ ((α : RunEnv) (R : List ℕ) → now (m .entry) ≡ image (machine.calling α none) ++ R → Fit (programOf (now (file .entry))) (machine.calling α none) → Ends 0 (runOf (programOf (now (file .entry))) allowed (machine.calling α none)) (r .outcome) (r .steps) (now (m .exit)) R) ⌝ }
 {
     if allowed == 0 {
         return Ran {
@@ -196,7 +198,7 @@ fn begin(file: &[u8], m: &mut [u32], allowed: u64) -> Ran
 // A run from a running state: its head is taken out of the memory.
 fn proceed(file: &[u8], m: &mut [u32], allowed: u64) -> Ran
     requires { ⌜ AtRunning (now file) (now m) × (size ≤ length (now m)) ⌝ }
-    ensures { λ r. ⌜ ((c : machine.Control) (f : ℕ) (η : List values.Value) (K : List Frame) (A : List Saved) (R : List ℕ) → now (m .entry) ≡ image (running c emptyEnv f η K A) ++ R → Fit (programOf (now (file .entry))) (running c emptyEnv f η K A) → Ends 0 (runOf (programOf (now (file .entry))) allowed (running c emptyEnv f η K A)) (r .outcome) (r .steps) (now (m .exit)) R) ⌝ }
+    ensures { λ r. ⌜ ((c : machine.Control) (α : RunEnv) (f : ℕ) (η : List values.Value) (K : List Frame) (A : List Saved) (R : List ℕ) → now (m .entry) ≡ image (running c α f η K A) ++ R → Fit (programOf (now (file .entry))) (running c α f η K A) → Ends 0 (runOf (programOf (now (file .entry))) allowed (running c α f η K A)) (r .outcome) (r .steps) (now (m .exit)) R) ⌝ }
 {
     let starts = starts_of(file);
     let callers = m[2] as usize - 1;

@@ -8,7 +8,7 @@ use Rattle.records.specs.Fields.{paramsOf, varsOf, countOf}
 use Rattle.records.specs.Parts.{startOf, partOf}
 use Rattle.spec_language.specs.Types as types
 use Rattle.spec_machine.specs.Values.{Value, nothing}
-use Rattle.spec_machine.specs.Machine.{Frame, Control, Saved, saved, emptyEnv, running, entered, blank}
+use Rattle.spec_machine.specs.Machine.{Frame, Control, Saved, saved, RunEnv, running, entered, blank}
 use Rattle.spec_machine.specs.Fit.{callerLimit, frameLimit}
 use Rattle.spec_machine.specs.File.{funOf}
 use Rattle.spec_machine.proofs.Operands.{types-length}
@@ -19,7 +19,7 @@ use Rattle.state_words.specs.declared.Control as code
 use Rattle.state_words.specs.Meaning.{controlIs}
 use Rattle.run_rules.specs.declared.Registers.{Registers}
 use Rattle.run_rules.specs.declared.Stepped.the-variants.{Went, Full}
-use Rattle.run_rules.specs.StepsTo.{Describes, StepsTo}
+use Rattle.run_rules.specs.StepsTo.{Rest, Describes, StepsTo}
 use Rattle.run_rules.proofs.Steps.{on, callers-over}
 
 -- the variables that are no parameters
@@ -61,16 +61,16 @@ left-describes s h f J g θ L A r st n a k u t hr hs hn ha hk hu =
     }
 
 -- a step within the limits, by its control and its variables
-pub on-is : (s : List ℕ) (c : code.Control) (h : Registers) (l m R : List ℕ) (k : Control) (f : ℕ) (η θ : List Value) (K : List Frame) (A : List Saved)
-    → controlIs c ≡ k → θ ≡ η → m ≡ core f θ K A ++ R → Describes s h f K A → h .callers < callerLimit → h .under + h .frames ≤ frameLimit
-    → StepsTo s (Went c h) l m R (running k emptyEnv f η K A)
-on-is s c h l m R k f η θ K A q v e t a n = rw (← q, ← v) (on s c h l m R f θ K A e t a n)
+pub on-is : (s : List ℕ) (c : code.Control) (h : Registers) (l m : List ℕ) (R : Rest) (α : RunEnv) (k : Control) (f : ℕ) (η θ : List Value) (K : List Frame) (A : List Saved)
+    → controlIs c ≡ k → θ ≡ η → m ≡ core f θ K A ++ R α → Describes s h f K A → h .callers < callerLimit → h .under + h .frames ≤ frameLimit
+    → StepsTo s (Went c h) l m R (running k α f η K A)
+on-is s c h l m R α k f η θ K A q v e t a n = rw (← q, ← v) (on s c h l m R α f θ K A e t a n)
 
 -- no function is entered past the limit
-pub entered-full : (s : List ℕ) (k : Control) (h : Registers) (l R : List ℕ) (f g : ℕ) (η θ : List Value) (J K : List Frame) (A : List Saved)
-    → Describes s h f J A → callerLimit - 1 ≤ h .callers → StepsTo s Full l l R (running k emptyEnv g θ [] (saved f η K ∷ A))
+pub entered-full : (s : List ℕ) (k : Control) (h : Registers) (l : List ℕ) (R : Rest) (α : RunEnv) (f g : ℕ) (η θ : List Value) (J K : List Frame) (A : List Saved)
+    → Describes s h f J A → callerLimit - 1 ≤ h .callers → StepsTo s Full l l R (running k α g θ [] (saved f η K ∷ A))
 unfolding StepsTo
-entered-full s k h l R f g η θ J K A t a = (callers-over k emptyEnv g θ [] (saved f η K ∷ A) (omega (arith, t .callers)), refl)
+entered-full s k h l R α f g η θ J K A t a = (callers-over k α g θ [] (saved f η K ∷ A) (omega (arith, t .callers)), refl)
 
 -- the callers and the frames of the caller
 module _ {s : List ℕ} {h : Registers} {f : ℕ} {J : List Frame} {g : ℕ} {θ : List Value} {L : List Frame} {A : List Saved} (t : Describes s h f J (saved g θ L ∷ A)) where

@@ -30,7 +30,7 @@ module _ (t : List ℕ) (i : ℕ) where
   -- what is no constant is to evaluate
   pub reach-other : (kindAt t i ≡ 0 → ⊥) → (kindAt t i ≡ 1 → ⊥) → (kindAt t i ≡ 15 → ⊥) → eval i ≡ reachL i (lookAt t i)
   reach-other a b c =
-      by-look t i (λ x. eval i ≡ reachL i x) (λ e. absurd (a e)) (λ e. absurd (b e)) (λ e. refl) (λ e. refl) (λ e. refl) (λ e. refl) (λ e. absurd (c e)) (λ l n. refl)
+      by-look t i (λ x. eval i ≡ reachL i x) (λ e. absurd (a e)) (λ e. absurd (b e)) (λ e. refl) (λ e. refl) (λ e. refl) (λ e. refl) (λ e. absurd (c e)) (λ n. refl)
 
 -- the kind of the last node of a part, in the file
 pub body-kind : (s : List ℕ) (g start count : ℕ) → start ≡ 12 * startOf s g → count ≡ countOf s g → 1 ≤ count

@@ -8,7 +8,7 @@ use lib.Dec.{leb}
 use lib.ListN.{length, length-append}
 use borrow.Author.Tests.{le-leb, lt-leb}
 use Rattle.spec_machine.specs.Values.{Value}
-use Rattle.spec_machine.specs.Machine.{Frame, Control, Saved, RunEnv, emptyEnv, State, running}
+use Rattle.spec_machine.specs.Machine.{Frame, Control, Saved, RunEnv, Exception, exception, running}
 use Rattle.spec_machine.specs.Fit as fit
 use Rattle.spec_machine.specs.Run.{withinLimits}
 use Rattle.spec_image.specs.Image.{savedFrames}
@@ -19,7 +19,7 @@ use Rattle.state_words.specs.Meaning.{controlIs}
 use Rattle.run_rules.specs.declared.Registers.{Registers}
 use Rattle.run_rules.specs.declared.Stepped.{Stepped}
 use Rattle.run_rules.specs.declared.Stepped.the-variants.{Went, Full, Returned, Arith, Abort}
-use Rattle.run_rules.specs.StepsTo.{Describes, StepsTo}
+use Rattle.run_rules.specs.StepsTo.{Rest, Describes, StepsTo}
 
 -- ---- limits
 
@@ -53,12 +53,13 @@ pub counted-under : {s : List ℕ} {h : Registers} {f : ℕ} {fr : Frame} {K : L
 counted-under {K} {A} t n e = omega (arith, t .under, t .frames, e, length-append K (savedFrames A))
 
 -- a step within the limits
-pub on : (s : List ℕ) (c : code.Control) (h : Registers) (l m R : List ℕ) (f : ℕ) (η : List Value) (K : List Frame) (A : List Saved)
-    → m ≡ core f η K A ++ R → Describes s h f K A → h .callers < fit.callerLimit → h .under + h .frames ≤ fit.frameLimit
-    → StepsTo s (Went c h) l m R (running (controlIs c) emptyEnv f η K A)
+pub on : (s : List ℕ) (c : code.Control) (h : Registers) (l m : List ℕ) (R : Rest) (α : RunEnv) (f : ℕ) (η : List Value) (K : List Frame) (A : List Saved)
+    → m ≡ core f η K A ++ R α → Describes s h f K A → h .callers < fit.callerLimit → h .under + h .frames ≤ fit.frameLimit
+    → StepsTo s (Went c h) l m R (running (controlIs c) α f η K A)
 unfolding StepsTo
-on s c h l m R f η K A e t a k =
+on s c h l m R α f η K A e t a k =
     record {
+      environment = α;
       function = f;
       variables = η;
       frames = K;
@@ -66,7 +67,7 @@ on s c h l m R f η K A e t a k =
       is = refl;
       held = e;
       describes = t;
-      limits = within-yes (controlIs c) emptyEnv f η K A (omega (arith, t .callers, a)) (omega (arith, t .under, t .frames, k));
+      limits = within-yes (controlIs c) α f η K A (omega (arith, t .callers, a)) (omega (arith, t .under, t .frames, k));
     }
 
 -- the head with another number of frames
@@ -75,16 +76,23 @@ pub moved : {s : List ℕ} {h : Registers} {f : ℕ} {K : List Frame} {A : List 
 moved t k L e = record { function = t .function; start = t .start; count = t .count; callers = t .callers; frames = e; under = t .under }
 
 -- a frame is laid, or there is no room for it
-pub full : (s : List ℕ) (c : Control) (h : Registers) (l R : List ℕ) (f : ℕ) (η : List Value) (fr : Frame) (K : List Frame) (A : List Saved)
-    → Describes s h f K A → fit.frameLimit ≤ h .under + h .frames → StepsTo s Full l l R (running c emptyEnv f η (fr ∷ K) A)
+pub full : (s : List ℕ) (c : Control) (h : Registers) (l : List ℕ) (R : Rest) (α : RunEnv) (f : ℕ) (η : List Value) (fr : Frame) (K : List Frame) (A : List Saved)
+    → Describes s h f K A → fit.frameLimit ≤ h .under + h .frames → StepsTo s Full l l R (running c α f η (fr ∷ K) A)
 unfolding StepsTo
-full s c h l R f η fr K A t k = (frames-over c emptyEnv f η (fr ∷ K) A (omega (arith, t .under, t .frames, k)), refl)
+full s c h l R α f η fr K A t k = (frames-over c α f η (fr ∷ K) A (omega (arith, t .under, t .frames, k)), refl)
 
--- a step to a state within the limits does not depend on the memory before it
-pub rebased : (s : List ℕ) (r : Stepped) (l k m R : List ℕ) (t : State) → withinLimits t ≡ true → StepsTo s r l m R t → StepsTo s r k m R t
+-- a running state is no exception
+unraised : {x : Exception} (c : Control) (α : RunEnv) (f : ℕ) (η : List Value) (K : List Frame) (A : List Saved) → running c α f η K A ≡ exception x → ⊥
+unraised c α f η K A e =
+    let z : _≡_ {A = ℕ} 0 1 = cc in
+    omega arith
+
+-- a step to a running state within the limits does not depend on the memory before it
+pub rebased : (s : List ℕ) (r : Stepped) (l k m : List ℕ) (R : Rest) (c : Control) (α : RunEnv) (f : ℕ) (η : List Value) (K : List Frame) (A : List Saved)
+    → let t = running c α f η K A in withinLimits t ≡ true → StepsTo s r l m R t → StepsTo s r k m R t
 unfolding StepsTo
-rebased s (Went c h) l k m R t w q = q
-rebased s Full l k m R t w q = absurd (true≢false (sym w ∙ q .0))
-rebased s (Returned v) l k m R t w q = q
-rebased s Arith l k m R t w q = q
-rebased s Abort l k m R t w q = q
+rebased s (Went d h) l k m R c α f η K A w q = q
+rebased s Full l k m R c α f η K A w q = absurd (true≢false (sym w ∙ q .0))
+rebased s (Returned v) l k m R c α f η K A w q = q
+rebased s Arith l k m R c α f η K A w q = absurd (unraised c α f η K A (q .0))
+rebased s Abort l k m R c α f η K A w q = absurd (unraised c α f η K A (q .0))

@@ -18,14 +18,14 @@ ghost use Rattle.records.specs.Fields.{functions, paramsOf, varsOf, countOf};
 ghost use Rattle.records.specs.Parts.{startOf};
 ghost use Rattle.spec_machine.specs.Values as values;
 ghost use Rattle.spec_machine.specs.Program as program;
-ghost use Rattle.spec_machine.specs.Machine.{emptyEnv, Frame, gather, Saved, saved, running, entered};
+ghost use Rattle.spec_machine.specs.Machine.{RunEnv, Frame, gather, Saved, saved, running, entered};
 ghost use Rattle.spec_machine.specs.Machine as machine;
 ghost use Rattle.spec_machine.specs.File.{funOf};
 ghost use Rattle.spec_image.specs.Image.{savedFrames};
-ghost use Rattle.spec_image.specs.Core.{core, HoldingCore};
+ghost use Rattle.spec_image.specs.Core.{core};
 ghost use Rattle.state_words.specs.Meaning.{valueIs};
 ghost use Rattle.spec_image.specs.Decode.{refOf};
-ghost use Rattle.run_rules.specs.StepsTo.{Describes, Bounds, Called, Cleared, StepsTo, Holding};
+ghost use Rattle.run_rules.specs.StepsTo.{Rest, Describes, Bounds, Called, Cleared, StepsTo, Holding};
 ghost use Rattle.records.specs.Starts.{Starts};
 
 // The word of the body of the function whose part has its first byte at `start`.
@@ -47,7 +47,7 @@ pub fn enter_none(
     g: u32,
 ) -> Stepped
     requires { ⌜ Bounds h (now m) × Starts (now file) (now starts) × (g < functions (now file)) ⌝ }
-    ensures { λ r. ⌜ Holding (now (file .entry)) (now (m .entry)) h (λ f η K A R. paramsOf (now (file .entry)) g ≡ 0 → StepsTo (now (file .entry)) r (now (m .entry)) (now (m .exit)) R (running (machine.exec (funOf (now (file .entry)) g .body)) emptyEnv g (entered (funOf (now (file .entry)) g) []) [] (saved f η K ∷ A))) ⌝ }
+    ensures { λ r. ⌜ Holding (now (file .entry)) (now (m .entry)) h (λ α f η K A R. paramsOf (now (file .entry)) g ≡ 0 → StepsTo (now (file .entry)) r (now (m .entry)) (now (m .exit)) R (running (machine.exec (funOf (now (file .entry)) g .body)) α g (entered (funOf (now (file .entry)) g) []) [] (saved f η K ∷ A))) ⌝ }
 {
     if SAVED_LIMIT <= h.callers {
         return Stepped::Full;
@@ -86,7 +86,7 @@ pub fn enter(
     v: Value,
 ) -> Stepped
     requires { ⌜ Bounds h (now m) × (1 ≤ h .frames) × Starts (now file) (now starts) × (g < functions (now file)) × (y ≤ slotRoom) ⌝ }
-    ensures { λ r. ⌜ ((f : ℕ) (η : List values.Value) (k : program.Operation) (vs : List values.Value) (K : List Frame) (A : List Saved) (R : List ℕ) → now (m .entry) ≡ core f η (machine.gather k vs [] ∷ K) A ++ R → Describes (now (file .entry)) h f (machine.gather k vs [] ∷ K) A → y ≡ length vs → paramsOf (now (file .entry)) g ≡ suc y → suc y ≤ varsOf (now (file .entry)) g → StepsTo (now (file .entry)) r (now (m .entry)) (now (m .exit)) R (running (machine.exec (funOf (now (file .entry)) g .body)) emptyEnv g (entered (funOf (now (file .entry)) g) (vs ++ (valueIs v ∷ []))) [] (saved f η K ∷ A))) ⌝ }
+    ensures { λ r. ⌜ ((α : RunEnv) (f : ℕ) (η : List values.Value) (k : program.Operation) (vs : List values.Value) (K : List Frame) (A : List Saved) (R : Rest) → now (m .entry) ≡ core f η (machine.gather k vs [] ∷ K) A ++ R α → Describes (now (file .entry)) h f (machine.gather k vs [] ∷ K) A → y ≡ length vs → paramsOf (now (file .entry)) g ≡ suc y → suc y ≤ varsOf (now (file .entry)) g → StepsTo (now (file .entry)) r (now (m .entry)) (now (m .exit)) R (running (machine.exec (funOf (now (file .entry)) g .body)) α g (entered (funOf (now (file .entry)) g) (vs ++ (valueIs v ∷ []))) [] (saved f η K ∷ A))) ⌝ }
 {
     if SAVED_LIMIT <= h.callers {
         return Stepped::Full;
@@ -128,7 +128,7 @@ pub fn leave(
 ) -> Stepped
     requires { ⌜ Bounds h (now m) × (1 ≤ h .callers) × Starts (now file) (now starts) ⌝ }
     requires caller { ⌜ Called (now file) h (now m) ⌝ }
-    ensures { λ r. ⌜ ((f : ℕ) (η : List values.Value) (J : List Frame) (g : ℕ) (θ : List values.Value) (L : List Frame) (A : List Saved) (R : List ℕ) → now (m .entry) ≡ core f η J (saved g θ L ∷ A) ++ R → Describes (now (file .entry)) h f J (saved g θ L ∷ A) → StepsTo (now (file .entry)) r (now (m .entry)) (now (m .exit)) R (running (machine.val (valueIs v)) emptyEnv g θ L A)) ⌝ }
+    ensures { λ r. ⌜ ((α : RunEnv) (f : ℕ) (η : List values.Value) (J : List Frame) (g : ℕ) (θ : List values.Value) (L : List Frame) (A : List Saved) (R : Rest) → now (m .entry) ≡ core f η J (saved g θ L ∷ A) ++ R α → Describes (now (file .entry)) h f J (saved g θ L ∷ A) → StepsTo (now (file .entry)) r (now (m .entry)) (now (m .exit)) R (running (machine.val (valueIs v)) α g θ L A)) ⌝ }
 {
     let c = state_words::at_hand(v);
     let callers = h.callers - 1;
@@ -148,10 +148,10 @@ pub fn leave(
     )
 }
 
-// Leaves main with an int.
+// Leaves the entry function with an int: the environment stays.
 pub fn leave_main(m: &mut [u32], h: Registers, word: u32) -> Stepped
     requires { ⌜ Bounds h (now m) ⌝ }
-    ensures { λ r. ⌜ ((s : List ℕ) (f : ℕ) (η : List values.Value) (J : List Frame) (R : List ℕ) → now (m .entry) ≡ core f η J [] ++ R → Describes s h f J [] → StepsTo s r (now (m .entry)) (now (m .exit)) R (machine.returned emptyEnv word)) ⌝ }
+    ensures { λ r. ⌜ ((s : List ℕ) (α : RunEnv) (f : ℕ) (η : List values.Value) (J : List Frame) (R : Rest) → now (m .entry) ≡ core f η J [] ++ R α → Describes s h f J [] → StepsTo s r (now (m .entry)) (now (m .exit)) R (machine.returned α word)) ⌝ }
 {
     state_stack::head::leave_main(m, h.frames);
     Stepped::Returned(word)
@@ -160,7 +160,7 @@ pub fn leave_main(m: &mut [u32], h: Registers, word: u32) -> Stepped
 // Sets all words of the state to zero.
 pub fn clear(m: &mut [u32], n: usize)
     requires { ⌜ (n ≡ size) × (n ≤ length (now m)) ⌝ }
-    ensures { λ _. ⌜ HoldingCore (now (m .entry)) (λ f η K A R. length A < callerRoom → length (K ++ savedFrames A) ≤ frameRoom → Cleared (now (m .exit)) R) ⌝ }
+    ensures { λ _. ⌜ Cleared (now (m .entry)) (now (m .exit)) ⌝ }
 {
     words::zero_at(m, 0, n)
 }

@@ -15,13 +15,13 @@ ghost use Rattle.records.specs.Fields.{sizeAt};
 ghost use Rattle.records.specs.Children.{walk};
 ghost use Rattle.spec_machine.specs.Values as values;
 ghost use Rattle.spec_machine.specs.Program as program;
-ghost use Rattle.spec_machine.specs.Machine.{emptyEnv, Frame, gather, Saved, running, reachL};
+ghost use Rattle.spec_machine.specs.Machine.{RunEnv, Frame, gather, Saved, running, reachL};
 ghost use Rattle.spec_machine.specs.Machine as machine;
 ghost use Rattle.spec_machine.specs.File.{backwards, lookAt};
 ghost use Rattle.spec_image.specs.Layout.{filled, frameWords};
 ghost use Rattle.spec_image.specs.Core.{core};
 ghost use Rattle.state_words.specs.Meaning.{controlIs};
-ghost use Rattle.run_rules.specs.StepsTo.{Describes, Bounds, StepsTo};
+ghost use Rattle.run_rules.specs.StepsTo.{Rest, Describes, Bounds, StepsTo};
 
 // What is reached at node i: a constant's value, or the node to evaluate; by kind.
 pub fn reach(part: &[u8], i: u32) -> Control
@@ -49,7 +49,7 @@ pub fn gather(
     last: usize,
 ) -> Stepped
     requires { ⌜ Bounds h (now m) × (1 ≤ k) × (k ≤ 8) × (12 * last + 12 ≤ length (now part)) × (last < mostNodes) ⌝ }
-    ensures { λ r. ⌜ ((s : List ℕ) (f : ℕ) (η : List values.Value) (g : program.Operation) (e : ℕ) (ns : List ℕ) (K : List Frame) (A : List Saved) (R : List ℕ) → now (m .entry) ≡ core f η K A ++ R → Describes s h f K A → ((z : ℕ) → z ≤ slotRoom → frameWords (machine.gather g [] (replicate z 0)) ≡ filled frameSize (kind ∷ x ∷ 0 ∷ z ∷ [])) → backwards (walk (sizeAt (now (part .entry))) k last) [] ≡ e ∷ ns → StepsTo s r (now (m .entry)) (now (m .exit)) R (running (reachL e (lookAt (now (part .entry)) e)) emptyEnv f η (machine.gather g [] ns ∷ K) A)) ⌝ }
+    ensures { λ r. ⌜ ((s : List ℕ) (α : RunEnv) (f : ℕ) (η : List values.Value) (g : program.Operation) (e : ℕ) (ns : List ℕ) (K : List Frame) (A : List Saved) (R : Rest) → now (m .entry) ≡ core f η K A ++ R α → Describes s h f K A → ((z : ℕ) → z ≤ slotRoom → frameWords (machine.gather g [] (replicate z 0)) ≡ filled frameSize (kind ∷ x ∷ 0 ∷ z ∷ [])) → backwards (walk (sizeAt (now (part .entry))) k last) [] ≡ e ∷ ns → StepsTo s r (now (m .entry)) (now (m .exit)) R (running (reachL e (lookAt (now (part .entry)) e)) α f η (machine.gather g [] ns ∷ K) A)) ⌝ }
 {
     let n = h.under + h.frames;
     if FRAME_LIMIT <= n {

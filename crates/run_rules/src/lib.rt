@@ -12,12 +12,12 @@ ghost use lib.ListN.{length, set};
 ghost use Rattle.spec_image.specs.Sizes.{frameSize, slotRoom, variableRoom};
 ghost use Rattle.spec_machine.specs.Values as values;
 ghost use Rattle.spec_machine.specs.Program as program;
-ghost use Rattle.spec_machine.specs.Machine.{emptyEnv, Frame, gather, Saved, running};
+ghost use Rattle.spec_machine.specs.Machine.{RunEnv, Frame, gather, Saved, running};
 ghost use Rattle.spec_machine.specs.Machine as machine;
 ghost use Rattle.spec_image.specs.Layout.{filled, frameWords};
 ghost use Rattle.spec_image.specs.Core.{core};
 ghost use Rattle.state_words.specs.Meaning.{valueIs, controlIs};
-ghost use Rattle.run_rules.specs.StepsTo.{Describes, Bounds, StepsTo, Holding, HoldingTop};
+ghost use Rattle.run_rules.specs.StepsTo.{Rest, Describes, Bounds, StepsTo, Holding, HoldingTop};
 
 // The current function with its part's first byte and node count, its callers, its frames, and those of its callers.
 pub struct Registers {
@@ -41,7 +41,7 @@ pub enum Stepped {
 // Lays a frame without operands, by its kind and two words.
 pub fn lay(m: &mut [u32], h: Registers, kind: u32, x: u32, y: u32, c: Control) -> Stepped
     requires { ⌜ Bounds h (now m) ⌝ }
-    ensures { λ r. ⌜ ((s : List ℕ) (f : ℕ) (η : List values.Value) (fr : Frame) (K : List Frame) (A : List Saved) (R : List ℕ) → now (m .entry) ≡ core f η K A ++ R → Describes s h f K A → frameWords fr ≡ filled frameSize (kind ∷ x ∷ y ∷ 0 ∷ []) → StepsTo s r (now (m .entry)) (now (m .exit)) R (running (controlIs c) emptyEnv f η (fr ∷ K) A)) ⌝ }
+    ensures { λ r. ⌜ ((s : List ℕ) (α : RunEnv) (f : ℕ) (η : List values.Value) (fr : Frame) (K : List Frame) (A : List Saved) (R : Rest) → now (m .entry) ≡ core f η K A ++ R α → Describes s h f K A → frameWords fr ≡ filled frameSize (kind ∷ x ∷ y ∷ 0 ∷ []) → StepsTo s r (now (m .entry)) (now (m .exit)) R (running (controlIs c) α f η (fr ∷ K) A)) ⌝ }
 {
     let n = h.under + h.frames;
     if FRAME_LIMIT <= n {
@@ -64,7 +64,7 @@ pub fn lay(m: &mut [u32], h: Registers, kind: u32, x: u32, y: u32, c: Control) -
 // Takes the top frame off.
 pub fn take_off(m: &mut [u32], h: Registers, c: Control) -> Stepped
     requires { ⌜ Bounds h (now m) × (1 ≤ h .frames) ⌝ }
-    ensures { λ r. ⌜ ((s : List ℕ) → HoldingTop s (now (m .entry)) h (λ f η fr K A R. StepsTo s r (now (m .entry)) (now (m .exit)) R (running (controlIs c) emptyEnv f η K A))) ⌝ }
+    ensures { λ r. ⌜ ((s : List ℕ) → HoldingTop s (now (m .entry)) h (λ α f η fr K A R. StepsTo s r (now (m .entry)) (now (m .exit)) R (running (controlIs c) α f η K A))) ⌝ }
 {
     let frames = h.frames - 1;
     state_stack::pop(m, h.under + frames);
@@ -84,7 +84,7 @@ pub fn take_off(m: &mut [u32], h: Registers, c: Control) -> Stepped
 // Stores a value in variable x.
 pub fn store_variable(m: &mut [u32], h: Registers, x: u32, v: Value, c: Control) -> Stepped
     requires { ⌜ Bounds h (now m) × (x < variableRoom) ⌝ }
-    ensures { λ r. ⌜ ((s : List ℕ) → Holding s (now (m .entry)) h (λ f η K A R. x < length η → length η ≤ variableRoom → StepsTo s r (now (m .entry)) (now (m .exit)) R (running (controlIs c) emptyEnv f (set η x (valueIs v)) K A))) ⌝ }
+    ensures { λ r. ⌜ ((s : List ℕ) → Holding s (now (m .entry)) h (λ α f η K A R. x < length η → length η ≤ variableRoom → StepsTo s r (now (m .entry)) (now (m .exit)) R (running (controlIs c) α f (set η x (valueIs v)) K A))) ⌝ }
 {
     state_stack::set_variable(m, h.callers, x as usize, v);
     Stepped::Went(c, h)
@@ -93,7 +93,7 @@ pub fn store_variable(m: &mut [u32], h: Registers, x: u32, v: Value, c: Control)
 // Stores a value in variable x, and takes the top frame off.
 pub fn assign(m: &mut [u32], h: Registers, x: u32, v: Value) -> Stepped
     requires { ⌜ Bounds h (now m) × (1 ≤ h .frames) × (x < variableRoom) ⌝ }
-    ensures { λ r. ⌜ ((s : List ℕ) → HoldingTop s (now (m .entry)) h (λ f η fr K A R. x < length η → length η ≤ variableRoom → StepsTo s r (now (m .entry)) (now (m .exit)) R (running (machine.exec program.Ref.nop) emptyEnv f (set η x (valueIs v)) K A))) ⌝ }
+    ensures { λ r. ⌜ ((s : List ℕ) → HoldingTop s (now (m .entry)) h (λ α f η fr K A R. x < length η → length η ≤ variableRoom → StepsTo s r (now (m .entry)) (now (m .exit)) R (running (machine.exec program.Ref.nop) α f (set η x (valueIs v)) K A))) ⌝ }
 {
     state_stack::set_variable(m, h.callers, x as usize, v);
     take_off(m, h, Control::Exec(0))
@@ -102,7 +102,7 @@ pub fn assign(m: &mut [u32], h: Registers, x: u32, v: Value) -> Stepped
 // Stores the operand that follows y values in the top frame, with z nodes waiting after it.
 pub fn supply(m: &mut [u32], h: Registers, y: u32, z: u32, v: Value, c: Control) -> Stepped
     requires { ⌜ Bounds h (now m) × (1 ≤ h .frames) × (y < 8) ⌝ }
-    ensures { λ r. ⌜ ((s : List ℕ) (f : ℕ) (η : List values.Value) (g : program.Operation) (vs : List values.Value) (e : ℕ) (ns : List ℕ) (K : List Frame) (A : List Saved) (R : List ℕ) → now (m .entry) ≡ core f η (gather g vs (e ∷ ns) ∷ K) A ++ R → Describes s h f (gather g vs (e ∷ ns) ∷ K) A → length vs + suc (length ns) ≤ slotRoom → y ≡ length vs → z ≡ length ns → StepsTo s r (now (m .entry)) (now (m .exit)) R (running (controlIs c) emptyEnv f η (gather g (vs ++ (valueIs v ∷ [])) ns ∷ K) A)) ⌝ }
+    ensures { λ r. ⌜ ((s : List ℕ) (α : RunEnv) (f : ℕ) (η : List values.Value) (g : program.Operation) (vs : List values.Value) (e : ℕ) (ns : List ℕ) (K : List Frame) (A : List Saved) (R : Rest) → now (m .entry) ≡ core f η (gather g vs (e ∷ ns) ∷ K) A ++ R α → Describes s h f (gather g vs (e ∷ ns) ∷ K) A → length vs + suc (length ns) ≤ slotRoom → y ≡ length vs → z ≡ length ns → StepsTo s r (now (m .entry)) (now (m .exit)) R (running (controlIs c) α f η (gather g (vs ++ (valueIs v ∷ [])) ns ∷ K) A)) ⌝ }
 {
     let frames = h.frames - 1;
     state_stack::gain(m, h.under + frames, y, z, v);

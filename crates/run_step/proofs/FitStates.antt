@@ -11,12 +11,14 @@ use Rattle.records.specs.Fields.{functions, countOf, kindAt}
 use Rattle.records.specs.Parts.{partOf}
 use Rattle.records.proofs.Bools.{and-left, and-right}
 use Rattle.spec_language.specs.Known.{namesVariable, Known}
+use Rattle.spec_language.specs.Sorts.{isExpression}
+use Rattle.spec_language.specs.KindLists.{isConstant, isStatement}
 use Rattle.spec_language.specs.Scopes.{usesVariable}
 use Rattle.spec_language.specs.Flow.{returns}
 use Rattle.spec_language.proofs.Accept.{accepted-is, nodes-known, calls-known}
 use Rattle.spec_machine.specs.Values.{Value}
 use Rattle.spec_machine.specs.Program.{Ref, node, ifOf, seqOf}
-use Rattle.spec_machine.specs.Machine.{Frame, Control, val, eval, exec, Saved, emptyEnv, running}
+use Rattle.spec_machine.specs.Machine.{Frame, Control, val, eval, exec, Saved, RunEnv, running}
 use Rattle.spec_machine.specs.Fit.{Fit, isExpr, isConst, isStmt, isNop}
 use Rattle.spec_machine.specs.File.{lookAt, formAt, ifForm, seqForm, seeAt, stmtAt, programOf}
 use Rattle.spec_machine.proofs.Levels.{by-look, by-form}
@@ -30,25 +32,25 @@ use Rattle.spec_image.specs.Decode.{refOf}
 use Rattle.state_words.specs.Meaning.{valueIs, controlIs}
 use Rattle.run_rules.specs.declared.Registers.{Registers}
 use Rattle.run_rules.specs.declared.Stepped.{Stepped}
-use Rattle.run_rules.specs.StepsTo.{Describes, Bounds}
+use Rattle.run_rules.specs.StepsTo.{Rest, Describes, Bounds}
 use Rattle.records.proofs.StartTables.{part-cut}
 use Rattle.run_step.specs.StepsBy.{Node, Executes, AtFitState, StepsBy}
 use Rattle.run_step.proofs.GiveNeeds.{limited, part-inside}
 
 -- the kinds that are evaluated, and those that are executed
-evaluated : (t : List ℕ) (i : ℕ) → isExpr (lookAt t i) ≡ true → isConst (lookAt t i) ≡ false → (2 ≤ kindAt t i) × (kindAt t i ≤ 5)
+evaluated : (t : List ℕ) (i : ℕ) → isExpr (lookAt t i) ≡ true → isConst (lookAt t i) ≡ false → (isExpression (kindAt t i) ≡ true) × (isConstant (kindAt t i) ≡ false)
+unfolding isExpression
 evaluated t i =
-    by-look t i (λ x. isExpr x ≡ true → isConst x ≡ false → (2 ≤ kindAt t i) × (kindAt t i ≤ 5))
+    by-look t i (λ x. isExpr x ≡ true → isConst x ≡ false → (isExpression (kindAt t i) ≡ true) × (isConstant (kindAt t i) ≡ false))
     (λ e a b. absurd (true≢false b)) (λ e a b. absurd (true≢false b))
-    (λ e a b. (omega arith, omega arith)) (λ e a b. (omega arith, omega arith)) (λ e a b. (omega arith, omega arith)) (λ e a b. (omega arith, omega arith))
-    (λ e a b. absurd (true≢false b)) (λ l n a b. absurd (false≢true a))
+    (λ e a b. (rw e, rw e)) (λ e a b. (rw e, rw e)) (λ e a b. (rw e, rw e)) (λ e a b. (rw e, rw e))
+    (λ e a b. absurd (true≢false b)) (λ n a b. absurd (false≢true a))
 
-executed : (t : List ℕ) (i : ℕ) → isNop (formAt t i) ≡ false → isStmt (formAt t i) ≡ true → (0 < i) × (7 ≤ kindAt t i) × (kindAt t i ≤ 14)
+executed : (t : List ℕ) (i : ℕ) → isNop (formAt t i) ≡ false → isStmt (formAt t i) ≡ true → (0 < i) × (isStatement (kindAt t i) ≡ true)
 executed t i =
-    by-form t i (λ x. isNop x ≡ false → isStmt x ≡ true → (0 < i) × (7 ≤ kindAt t i) × (kindAt t i ≤ 14))
+    by-form t i (λ x. isNop x ≡ false → isStmt x ≡ true → (0 < i) × (isStatement (kindAt t i) ≡ true))
     (λ e a b. absurd (true≢false a))
-    (λ e p a b. (p, omega arith, omega arith)) (λ e p a b. (p, omega arith, omega arith)) (λ e p a b. (p, omega arith, omega arith)) (λ e p a b. (p, omega arith, omega arith))
-    (λ e p a b. (p, omega arith, omega arith)) (λ e p a b. (p, omega arith, omega arith)) (λ e p a b. (p, omega arith, omega arith)) (λ e p a b. (p, omega arith, omega arith))
+    (λ e p a b. (p, rw e)) (λ e p a b. (p, rw e)) (λ e p a b. (p, rw e)) (λ e p a b. (p, rw e)) (λ e p a b. (p, rw e)) (λ e p a b. (p, rw e)) (λ e p a b. (p, rw e)) (λ e p a b. (p, rw e))
     (λ n z a b. absurd (false≢true b))
 
 loop-if : (t : List ℕ) (w : ℕ) → isStmt (ifForm w (formAt t w)) ≡ true → (0 < w) × (kindAt t w ≡ 11)
@@ -93,7 +95,7 @@ module _ (s table t : List ℕ) (h : Registers) (l : List ℕ) (part : t ≡ par
   nodes c st = nodes-known s (accepted-is s (st .passed)) (h .function) (known s table c h l st)
 
   -- an expression to evaluate
-  pub evaluates : (i : ℕ) → AtFitState s table (eval i) h l → Node s t i × (2 ≤ kindAt t i) × (kindAt t i ≤ 5)
+  pub evaluates : (i : ℕ) → AtFitState s table (eval i) h l → Node s t i × (isExpression (kindAt t i) ≡ true) × (isConstant (kindAt t i) ≡ false)
   unfolding programOf namesVariable usesVariable
   evaluates i st =
       let g = st .fit .proper .frames in
@@ -123,7 +125,7 @@ module _ (s table t : List ℕ) (h : Registers) (l : List ℕ) (part : t ≡ par
       let w = inside (exec (node i)) st i n in
       let q = executed (partOf s (h .function)) i (not-true _ (and-right (ltb i (countOf s (h .function))) (not (isNop (formAt (partOf s (h .function)) i))) (g .0))) (g .1) in
       let k = nodes (exec (node i)) st in
-      ((w .0, w .1, q .0), rw part (q .1), rw part (q .2), rw part (λ e. k .variable i n (rw e)))
+      ((w .0, w .1, q .0), rw part (q .1), rw part (λ e. k .variable i n (rw e)))
   executes Ref.nop st = tt
   executes (ifOf i) st =
       let g = st .fit .proper .frames .0 in
@@ -141,7 +143,7 @@ pub waiting : (s table : List ℕ) (h : Registers) (l : List ℕ) (r : Ref) → 
 unfolding programOf stmtAt returns
 waiting s table h l r st e = go (st .frames) (st .describes) (rw e at (st .fit))
   where
-    go : (K : List Frame) → Describes s h (h .function) K (st .callers) → Fit (programOf s) (running (exec Ref.nop) emptyEnv (h .function) (st .variables) K (st .callers)) → 1 ≤ h .frames
+    go : (K : List Frame) → Describes s h (h .function) K (st .callers) → Fit (programOf s) (running (exec Ref.nop) (st .environment) (h .function) (st .variables) K (st .callers)) → 1 ≤ h .frames
     go [] t f = absurd (false≢true (f .proper .returns))
     go (fr ∷ K) t f = omega (arith, t .frames)
 
@@ -172,27 +174,27 @@ module _ (s table : List ℕ) (c : code.Control) (h : Registers) (l : List ℕ) 
   unfolding controlIs
   at-fit-exec r e st = rw e at st
 
-module _ (s : List ℕ) (r : Stepped) (h : Registers) (l m R : List ℕ) (f : ℕ) (η : List Value) where
-  pub val-done : (K : List Frame) (A : List Saved) (c : code.Control) (v : code-value.Value) → controlIs c ≡ val (valueIs v) → l ≡ core f η K A ++ R → Describes s h f K A
-      → Fit (programOf s) (running (controlIs c) emptyEnv f η K A)
-      → ((fr : Frame) (L : List Frame) → l ≡ core f η (fr ∷ L) A ++ R → Describes s h f (fr ∷ L) A → Fit (programOf s) (running (val (valueIs v)) emptyEnv f η (fr ∷ L) A)
-      → StepsBy s r l m R (give (programOf s) (valueIs v) emptyEnv f η (fr ∷ L) A))
-      → StepsBy s r l m R (next (programOf s) (running (controlIs c) emptyEnv f η K A))
+module _ (s : List ℕ) (r : Stepped) (h : Registers) (l m : List ℕ) (R : Rest) (α : RunEnv) (f : ℕ) (η : List Value) where
+  pub val-done : (K : List Frame) (A : List Saved) (c : code.Control) (v : code-value.Value) → controlIs c ≡ val (valueIs v) → l ≡ core f η K A ++ R α → Describes s h f K A
+      → Fit (programOf s) (running (controlIs c) α f η K A)
+      → ((fr : Frame) (L : List Frame) → l ≡ core f η (fr ∷ L) A ++ R α → Describes s h f (fr ∷ L) A → Fit (programOf s) (running (val (valueIs v)) α f η (fr ∷ L) A)
+      → StepsBy s r l m R (give (programOf s) (valueIs v) α f η (fr ∷ L) A))
+      → StepsBy s r l m R (next (programOf s) (running (controlIs c) α f η K A))
   val-done [] A c v e i j fit q = absurd ((rw e at fit) .proper .frames)
   val-done (fr ∷ L) A c v e i j fit q = rw e (q fr L i j (rw e at fit))
 
   module _ (K : List Frame) (A : List Saved) (t : List ℕ) (c : code.Control) where
-    pub eval-done : (i : ℕ) → c ≡ control.Eval i → Describes s h f K A → t ≡ partOf s (h .function) → Fit (programOf s) (running (controlIs c) emptyEnv f η K A)
-        → (t ≡ partOf s f → Fit (programOf s) (running (eval i) emptyEnv f η K A) → StepsBy s r l m R (opens (programOf s) (lookAt t i) emptyEnv f η K A))
-        → StepsBy s r l m R (next (programOf s) (running (controlIs c) emptyEnv f η K A))
+    pub eval-done : (i : ℕ) → c ≡ control.Eval i → Describes s h f K A → t ≡ partOf s (h .function) → Fit (programOf s) (running (controlIs c) α f η K A)
+        → (t ≡ partOf s f → Fit (programOf s) (running (eval i) α f η K A) → StepsBy s r l m R (opens (programOf s) (lookAt t i) α f η K A))
+        → StepsBy s r l m R (next (programOf s) (running (controlIs c) α f η K A))
     unfolding controlIs programOf
     eval-done i e j part fit q =
         let p : t ≡ partOf s f = part ∙ ap (partOf s) (j .function) in
         rw (e, ← p) (q p (rw e at fit))
 
-    pub exec-done : (k : ℕ) → c ≡ control.Exec k → Describes s h f K A → t ≡ partOf s (h .function) → Fit (programOf s) (running (controlIs c) emptyEnv f η K A)
-        → (t ≡ partOf s f → Fit (programOf s) (running (exec (refOf k)) emptyEnv f η K A) → StepsBy s r l m R (runs (programOf s) (seeAt t (refOf k)) emptyEnv f η K A))
-        → StepsBy s r l m R (next (programOf s) (running (controlIs c) emptyEnv f η K A))
+    pub exec-done : (k : ℕ) → c ≡ control.Exec k → Describes s h f K A → t ≡ partOf s (h .function) → Fit (programOf s) (running (controlIs c) α f η K A)
+        → (t ≡ partOf s f → Fit (programOf s) (running (exec (refOf k)) α f η K A) → StepsBy s r l m R (runs (programOf s) (seeAt t (refOf k)) α f η K A))
+        → StepsBy s r l m R (next (programOf s) (running (controlIs c) α f η K A))
     unfolding controlIs programOf
     exec-done k e j part fit q =
         let p : t ≡ partOf s f = part ∙ ap (partOf s) (j .function) in

@@ -9,13 +9,13 @@ use Rattle.records.specs.Fields.{kindAt, bAt, sizeAt}
 use Rattle.records.specs.Parts.{partOf}
 use Rattle.spec_language.specs.Statements.{prior, last, shapes, shapeAt}
 use Rattle.spec_machine.specs.Program.{StmtForm}
-use Rattle.spec_machine.specs.Machine.{Frame, check, Saved, emptyEnv, running, reachL}
+use Rattle.spec_machine.specs.Machine.{Frame, check, Saved, RunEnv, running, reachL}
 use Rattle.spec_machine.specs.Values.{Value}
 use Rattle.spec_machine.specs.Next.{runs}
 use Rattle.spec_machine.specs.File.{refAt, lookAt, formOf, formAt, programOf}
 use Rattle.spec_image.specs.Layout.{filled, block, frameWords}
 use Rattle.run_rules.specs.declared.Stepped.{Stepped}
-use Rattle.run_rules.specs.StepsTo.{StepsTo}
+use Rattle.run_rules.specs.StepsTo.{Rest, StepsTo}
 use Rattle.run_step.specs.StepsBy.{StepsBy}
 use Rattle.run_step.proofs.Levels.{form-shape}
 
@@ -61,13 +61,13 @@ three n a b = first (ℕ-discrete n 12) (ℕ-discrete n 13)
     first (no u) (no v) = inr (inr (omega arith))
 
 -- the frame of a statement of one expression
-module _ (s t : List ℕ) (r : Stepped) (l m R : List ℕ) (f : ℕ) (η : List Value) (K : List Frame) (A : List Saved) (i : ℕ) (p : 0 < i) (part : t ≡ partOf s f) where
+module _ (s t : List ℕ) (r : Stepped) (l m : List ℕ) (R : Rest) (α : RunEnv) (f : ℕ) (η : List Value) (K : List Frame) (A : List Saved) (i : ℕ) (p : 0 < i) (part : t ≡ partOf s f) where
   pub single-done : (k : ℕ) → 12 ≤ kindAt t i → kindAt t i ≤ 14 → k ≡ kindAt t i - 5
-      → ((fr : Frame) → frameWords fr ≡ filled 20 (k ∷ 0 ∷ 0 ∷ 0 ∷ []) → StepsTo s r l m R (running (reachL (i - 1) (lookAt t (i - 1))) emptyEnv f η (fr ∷ K) A))
-      → StepsBy s r l m R (runs (programOf s) (formAt t i) emptyEnv f η K A)
+      → ((fr : Frame) → frameWords fr ≡ filled 20 (k ∷ 0 ∷ 0 ∷ 0 ∷ []) → StepsTo s r l m R (running (reachL (i - 1) (lookAt t (i - 1))) α f η (fr ∷ K) A))
+      → StepsBy s r l m R (runs (programOf s) (formAt t i) α f η K A)
   single-done k lo hi e q = go (three (kindAt t i) lo hi)
     where
-      go : (kindAt t i ≡ 12) ⊎ ((kindAt t i ≡ 13) ⊎ (kindAt t i ≡ 14)) → StepsBy s r l m R (runs (programOf s) (formAt t i) emptyEnv f η K A)
+      go : (kindAt t i ≡ 12) ⊎ ((kindAt t i ≡ 13) ⊎ (kindAt t i ≡ 14)) → StepsBy s r l m R (runs (programOf s) (formAt t i) α f η K A)
       go (inl h) = unfold programOf frameWords block in (rw (form-return t i p h, ← part) (q Frame.leave (rw (e, h))))
       go (inr (inl h)) = unfold programOf frameWords block in (rw (form-assert t i p h, ← part) (q check (rw (e, h))))
       go (inr (inr h)) = unfold programOf frameWords block in (rw (form-expr t i p h, ← part) (q Frame.discard (rw (e, h))))

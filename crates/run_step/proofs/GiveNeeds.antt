@@ -11,12 +11,12 @@ use Rattle.spec_language.specs.Check.{accepted, checkOf}
 use Rattle.spec_machine.specs.Values as values
 use Rattle.spec_machine.specs.Values.{int, tBool, typeV}
 use Rattle.spec_machine.specs.Program.{Operation, op, fn}
-use Rattle.spec_machine.specs.Machine.{Frame, gather, and, val, Saved, saved, emptyEnv, running}
+use Rattle.spec_machine.specs.Machine.{Frame, gather, and, val, Saved, saved, RunEnv, running}
 use Rattle.spec_machine.specs.Fit as fit
 use Rattle.spec_machine.specs.File.{programOf}
 use Rattle.spec_image.specs.Sizes.{callerRoom, frameSize, framesAt, size}
 use Rattle.spec_image.specs.Image.{savedFrames}
-use Rattle.spec_image.specs.Layout.{valueWords}
+use Rattle.spec_image.specs.Layout.{valueWords, envWords}
 use Rattle.spec_image.specs.Core.{core}
 use Rattle.spec_image.proofs.Images.{length-frames}
 use Rattle.spec_image.proofs.Operands.{read-value, read-node}
@@ -35,6 +35,7 @@ use Rattle.run_step.proofs.GiveShapes.{ints, arguments, waits, conjunct
 pub record Over (s table : List ℕ) (v : values.Value) (h : code.Registers) (l : List ℕ) : Type 0 where
   pub passed : checkOf s ≡ accepted
   pub starts : Starts s table
+  pub environment : RunEnv
   pub variables : List values.Value
   pub top : Frame
   pub frames : List Frame
@@ -42,31 +43,32 @@ pub record Over (s table : List ℕ) (v : values.Value) (h : code.Registers) (l 
   pub rest : List ℕ
   pub held : l ≡ core (h .function) variables (top ∷ frames) callers ++ rest
   pub describes : Describes s h (h .function) (top ∷ frames) callers
-  pub fit : fit.Fit (programOf s) (running (val v) emptyEnv (h .function) variables (top ∷ frames) callers)
+  pub fit : fit.Fit (programOf s) (running (val v) environment (h .function) variables (top ∷ frames) callers)
 
 pub over : (s table : List ℕ) (v : values.Value) (h : code.Registers) (l : List ℕ) → AtFitState s table (val v) h l → Over s table v h l
 over s table v h l st = go (st .frames) (st .held) (st .describes) (st .fit)
   where
-    go : (K : List Frame) → l ≡ core (h .function) (st .variables) K (st .callers) ++ st .rest → Describes s h (h .function) K (st .callers)
-        → fit.Fit (programOf s) (running (val v) emptyEnv (h .function) (st .variables) K (st .callers)) → Over s table v h l
+    go : (K : List Frame) → l ≡ core (h .function) (st .variables) K (st .callers) ++ (envWords (st .environment) ++ st .rest) → Describes s h (h .function) K (st .callers)
+        → fit.Fit (programOf s) (running (val v) (st .environment) (h .function) (st .variables) K (st .callers)) → Over s table v h l
     go [] e t f = absurd (f .proper .frames)
     go (fr ∷ K) e t f =
         record {
           passed = st .passed;
           starts = st .starts;
+          environment = st .environment;
           variables = st .variables;
           top = fr;
           frames = K;
           callers = st .callers;
-          rest = st .rest;
+          rest = envWords (st .environment) ++ st .rest;
           held = e;
           describes = t;
           fit = f;
         }
 
 -- the limits of a fit state
-pub limited : {s : List ℕ} {c : _} {h : code.Registers} {f : ℕ} {η : List values.Value} {K : List Frame} {A : List Saved} → Describes s h f K A
-    → fit.Fit (programOf s) (running c emptyEnv f η K A) → (h .callers < fit.callerLimit) × (h .under + h .frames ≤ fit.frameLimit)
+pub limited : {s : List ℕ} {c : _} {h : code.Registers} {α : RunEnv} {f : ℕ} {η : List values.Value} {K : List Frame} {A : List Saved} → Describes s h f K A
+    → fit.Fit (programOf s) (running c α f η K A) → (h .callers < fit.callerLimit) × (h .under + h .frames ≤ fit.frameLimit)
 limited {K} {A} t f = (omega (arith, t .callers, f .within .0), omega (arith, t .under, t .frames, f .within .1, length-frames A))
 
 pub shaped : {fr : Frame} {k : Operation} {vs ws : List values.Value} {ns : List ℕ} → fr ≡ gather k vs ns → vs ≡ ws → ns ≡ [] → fr ≡ gather k ws []
@@ -98,7 +100,7 @@ module _ (s table : List ℕ) (v : Value) (h : code.Registers) (l : List ℕ) (x
     operate-ready o g e =
         let f = rw (g .is) at (x .fit) in
         let n = empty (g .nodes) z (g .waits) e in
-        let i = ints s (x .passed) (h .function) (x .variables) (valueIs v) (x .frames) (x .callers) o (g .values) (g .nodes) f n in
+        let i = ints s (x .passed) (x .environment) (h .function) (x .variables) (valueIs v) (x .frames) (x .callers) o (g .values) (g .nodes) f n in
         let q : x .top ≡ gather (op o) (int (i .first) ∷ []) [] = shaped (g .is) (i .stored) n in
         let k = rw q at (x .held) in (
           i .known,
@@ -113,7 +115,7 @@ module _ (s table : List ℕ) (v : Value) (h : code.Registers) (l : List ℕ) (x
         go [] i w = absurd (e w)
         go (d ∷ ns) i w =
             let f = rw i at (x .fit) in
-            let q = waits s (x .passed) (h .function) (x .variables) (valueIs v) (x .frames) (x .callers) k (g .values) d ns f in
+            let q = waits s (x .passed) (x .environment) (h .function) (x .variables) (valueIs v) (x .frames) (x .callers) k (g .values) d ns f in
             let c = rw i at (x .held) in
             let r : getD l (place + (4 + y * 2)) 0 ≡ d
             = rw c (read-node (h .function) (x .variables) (x .frames) (x .callers) (x .rest) _ _ few under refl k (g .values) (d ∷ ns) (q .0) 0 _ (omega arith) (omega (arith, g .done))) in
@@ -122,17 +124,17 @@ module _ (s table : List ℕ) (v : Value) (h : code.Registers) (l : List ℕ) (x
     pub enter-ready : (k : ℕ) → Gathers (x .top) (fn k) y z → z ≡ 0 → (k < functions s) × (y ≤ 7)
     enter-ready k g e =
         let f = rw (g .is) at (x .fit) in
-        let q = arguments s (x .passed) (h .function) (x .variables) (valueIs v) (x .frames) (x .callers) k (g .values) (g .nodes) f (empty (g .nodes) z (g .waits) e) in
+        let q = arguments s (x .passed) (x .environment) (h .function) (x .variables) (valueIs v) (x .frames) (x .callers) k (g .values) (g .nodes) f (empty (g .nodes) z (g .waits) e) in
         (q .0, omega (arith, g .done, q .3))
 
   pub and-ready : (n : ℕ) → x .top ≡ and n → IsTruth v × (n < countOf s (h .function))
   and-ready n e =
-      let q = conjunct s (x .passed) (h .function) (x .variables) (valueIs v) (x .frames) (x .callers) n (rw e at (x .fit)) in
+      let q = conjunct s (x .passed) (x .environment) (h .function) (x .variables) (valueIs v) (x .frames) (x .callers) n (rw e at (x .fit)) in
       (is-truth v (q .0), q .1)
 
   pub store-ready : (n : ℕ) → x .top ≡ Frame.store n → n < 64
   store-ready n e =
-      let q = assigned s (x .passed) (h .function) (x .variables) (valueIs v) (x .frames) (x .callers) n (rw e at (x .fit)) in
+      let q = assigned s (x .passed) (x .environment) (h .function) (x .variables) (valueIs v) (x .frames) (x .callers) n (rw e at (x .fit)) in
       omega (arith, q .0, q .1)
 
   pub leave-main-ready : x .top ≡ Frame.leave → h .callers ≡ 0 → IsInt v
@@ -140,7 +142,7 @@ module _ (s table : List ℕ) (v : Value) (h : code.Registers) (l : List ℕ) (x
     where
       go : (A : List Saved) → x .callers ≡ A → IsInt v
       go [] i =
-          let q = main-int s (x .passed) (h .function) (x .variables) (valueIs v) (x .frames) (x .callers) (rw e at (x .fit)) i in
+          let q = main-int s (x .passed) (x .environment) (h .function) (x .variables) (valueIs v) (x .frames) (x .callers) (rw e at (x .fit)) i in
           is-int v (q .word) (q .is)
       go (saved g θ L ∷ A) i = absurd (omega (arith, x .describes .callers, ap length i))
 
@@ -161,7 +163,7 @@ module _ (s table : List ℕ) (v : Value) (h : code.Registers) (l : List ℕ) (x
             rest = x .rest;
             held = rw i at (x .held);
             describes = rw i at (x .describes);
-            known = caller-known s (x .passed) (h .function) (x .variables) (valueIs v) (x .frames) (x .callers) (rw e at (x .fit)) g θ L A i;
+            known = caller-known s (x .passed) (x .environment) (h .function) (x .variables) (valueIs v) (x .frames) (x .callers) (rw e at (x .fit)) g θ L A i;
           }
 
   pub branch-ready : (typeV (valueIs v) ≡ tBool) → IsTruth v

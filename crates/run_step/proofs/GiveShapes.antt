@@ -12,13 +12,14 @@ use Rattle.spec_language.specs.Types as types
 use Rattle.spec_language.proofs.Accept.{accepted-is, function}
 use Rattle.spec_machine.specs.Values.{Value, nothing, int, truth, Ty, tInt, tBool, typeV}
 use Rattle.spec_machine.specs.Program.{Operation, op, fn}
-use Rattle.spec_machine.specs.Machine.{Frame, gather, and, val, Saved, saved, emptyEnv, running}
+use Rattle.spec_machine.specs.Machine.{Frame, gather, and, val, Saved, saved, RunEnv, running}
 use Rattle.spec_machine.specs.Fit.{Fit}
 use Rattle.spec_machine.specs.File.{funOf, programOf}
 use Rattle.spec_machine.proofs.Files.{accepted-program}
 use Rattle.spec_machine.proofs.Operands.{types-length}
 use Rattle.spec_image.specs.Image.{framesOf}
 use Rattle.spec_image.proofs.Sized.{file-sized, fit-narrow}
+use Rattle.spec_machine.proofs.Moves.{entry-gives}
 use Rattle.run_step.proofs.Facts.{variables-few, variable-held}
 
 -- two ints
@@ -39,9 +40,9 @@ int-typed nothing e = absurd (let z : _≡_ {A = ℕ} 0 1 = e in omega arith)
 int-typed (int n) e = record { word = n; is = refl }
 int-typed (truth b) e = absurd (let z : _≡_ {A = ℕ} 2 1 = e in omega arith)
 
-module _ (s : List ℕ) (passed : checkOf s ≡ accepted) (f : ℕ) (η : List Value) (v : Value) (K : List Frame) (A : List Saved) where
+module _ (s : List ℕ) (passed : checkOf s ≡ accepted) (α : RunEnv) (f : ℕ) (η : List Value) (v : Value) (K : List Frame) (A : List Saved) where
   abbrev At : Frame → Type 0
-  At fr = Fit (programOf s) (running (val v) emptyEnv f η (fr ∷ K) A)
+  At fr = Fit (programOf s) (running (val v) α f η (fr ∷ K) A)
 
   -- an operator's operands
   pub ints : (o : ℕ) (vs : List Value) (ns : List ℕ) → At (gather (op o) vs ns) → ns ≡ [] → Ints vs v o
@@ -80,13 +81,13 @@ module _ (s : List ℕ) (passed : checkOf s ≡ accepted) (f : ℕ) (η : List V
   conjunct n fit = let t = fit .proper .frames in (t .0, ltb-true _ _ (t .1 .0))
 
   pub assigned : (x : ℕ) → At (Frame.store x) → (x < length η) × (length η ≤ 64)
-  assigned x fit = (variable-held s passed (val v) f η (Frame.store x ∷ K) A fit x (fit .proper .frames .1), variables-few s passed (val v) f η (Frame.store x ∷ K) A fit)
+  assigned x fit = (variable-held s passed (val v) α f η (Frame.store x ∷ K) A fit x (fit .proper .frames .1), variables-few s passed (val v) α f η (Frame.store x ∷ K) A fit)
 
-  -- what is left: main with an int, or a function for its caller
+  -- what is left: the entry function with an int, or a function for its caller
   pub main-int : At Frame.leave → A ≡ [] → Int v
   main-int fit e =
-      let z : f ≡ 0 = rw e at fit .proper .callers in
-      int-typed v (fit .proper .frames .0 ∙ rw z (accepted-program s passed .main-gives))
+      let z : f ≡ α .entry = rw e at fit .proper .callers in
+      int-typed v (fit .proper .frames .0 ∙ rw z (entry-gives (programOf s) (accepted-program s passed) (fit .proper .entry)))
 
   pub caller-known : At Frame.leave → (g : ℕ) (θ : List Value) (L : List Frame) (B : List Saved) → A ≡ saved g θ L ∷ B → g < functions s
   unfolding programOf

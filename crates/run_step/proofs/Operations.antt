@@ -8,7 +8,7 @@ use Rattle.arith.specs.Operators.{applied}
 use Rattle.arith.specs.declared.Applied.the-variants.{Int, Truth, Arith}
 use Rattle.spec_machine.specs.Values.{Value, int, truth, result}
 use Rattle.spec_machine.specs.Program.{op}
-use Rattle.spec_machine.specs.Machine.{arith as raises, Frame, gather, val, Saved, emptyEnv, exception, running}
+use Rattle.spec_machine.specs.Machine.{arith as raises, Frame, gather, val, Saved, RunEnv, exception, running}
 use Rattle.spec_machine.specs.Next.{settle}
 use Rattle.spec_image.specs.Sizes.{callerRoom}
 use Rattle.spec_image.specs.Image.{savedFrames}
@@ -19,7 +19,7 @@ use Rattle.state_words.specs.declared.Value as code
 use Rattle.state_words.specs.declared.Value.the-variants as code-value
 use Rattle.state_words.specs.Meaning.{valueIs}
 use Rattle.run_rules.specs.declared.Stepped.{Stepped}
-use Rattle.run_rules.specs.StepsTo.{StepsTo}
+use Rattle.run_rules.specs.StepsTo.{Rest, StepsTo}
 use Rattle.run_step.specs.StepsBy.{StepsBy}
 use Rattle.run_step.proofs.Sorts.{int-inj}
 
@@ -35,15 +35,15 @@ pub stored : (l : List ℕ) (n f : ℕ) (η : List Value) (o a : ℕ) (K : List 
 stored l n f η o a K A R v x e few count i q =
     hand v x a q (i ∙ rw e (value-in f η K A R n (4480 + n * 20) few count refl (op o) (int a ∷ []) [] (omega arith) 0 _ (omega arith) refl))
 
-module _ (s : List ℕ) (r : Stepped) (l m R : List ℕ) (f : ℕ) (η : List Value) (K : List Frame) (A : List Saved) (edition o a b x y : ℕ) (ha : x ≡ a) (hb : y ≡ b) where
-  pub settled-int : (w : ℕ) → applied edition o x y ≡ Int w → StepsTo s r l m R (running (val (int w)) emptyEnv f η K A) → StepsBy s r l m R (settle emptyEnv f η K A (result edition o a b))
+module _ (s : List ℕ) (r : Stepped) (l m : List ℕ) (R : Rest) (α : RunEnv) (f : ℕ) (η : List Value) (K : List Frame) (A : List Saved) (edition o a b x y : ℕ) (ha : x ≡ a) (hb : y ≡ b) where
+  pub settled-int : (w : ℕ) → applied edition o x y ≡ Int w → StepsTo s r l m R (running (val (int w)) α f η K A) → StepsBy s r l m R (settle α f η K A (result edition o a b))
   unfolding result
   settled-int w e q = rw (← ha, ← hb, e) q
 
-  pub settled-truth : (w : _) → applied edition o x y ≡ Truth w → StepsTo s r l m R (running (val (truth w)) emptyEnv f η K A) → StepsBy s r l m R (settle emptyEnv f η K A (result edition o a b))
+  pub settled-truth : (w : _) → applied edition o x y ≡ Truth w → StepsTo s r l m R (running (val (truth w)) α f η K A) → StepsBy s r l m R (settle α f η K A (result edition o a b))
   unfolding result
   settled-truth w e q = rw (← ha, ← hb, e) q
 
-  pub settled-arith : applied edition o x y ≡ Arith → StepsTo s r l m R (exception raises) → StepsBy s r l m R (settle emptyEnv f η K A (result edition o a b))
+  pub settled-arith : applied edition o x y ≡ Arith → StepsTo s r l m R (exception raises) → StepsBy s r l m R (settle α f η K A (result edition o a b))
   unfolding result
   settled-arith e q = rw (← ha, ← hb, e) q

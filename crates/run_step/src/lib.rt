@@ -19,24 +19,27 @@ use state_words::layout::FRAME_OPERATOR;
 use state_words::layout::IMAGE_WORDS;
 use state_words::layout::SLOTS;
 ghost use mathlib.Core.Path.{_≡_};
+ghost use mathlib.Core.Bool.{true, false};
 ghost use mathlib.Core.List.{List, [], _∷_, _++_};
 ghost use Prim.Native.Nat.{ℕ, suc, _+_, _*_, _-_, _≤_, _<_};
 ghost use lib.ListN.{length, getD};
 ghost use Rattle.spec_image.specs.Sizes.{callerRoom, frameSize, frameRoom, framesAt, size, slotsFrom, slotRoom};
 ghost use Rattle.records.specs.Fields.{editionOf, paramsOf, kindAt, aAt, bAt};
 ghost use Rattle.records.specs.Parts.{partOf};
+ghost use Rattle.spec_language.specs.Sorts.{isExpression};
+ghost use Rattle.spec_language.specs.KindLists.{isConstant};
 ghost use Rattle.spec_language.specs.Check.{accepted, checkOf};
 ghost use Rattle.spec_machine.specs.Values as values;
 ghost use Rattle.spec_machine.specs.Program as program;
 ghost use Rattle.spec_machine.specs.Machine as machine;
-ghost use Rattle.spec_machine.specs.Machine.{emptyEnv, Frame, Saved, running, reachL};
+ghost use Rattle.spec_machine.specs.Machine.{RunEnv, Frame, Saved, running, reachL};
 ghost use Rattle.spec_machine.specs.Next as next;
 ghost use Rattle.spec_machine.specs.Fit.{Fit};
 ghost use Rattle.spec_machine.specs.File.{lookAt, programOf};
 ghost use Rattle.spec_image.specs.Image.{savedFrames};
-ghost use Rattle.spec_image.specs.Core.{core, HoldingCore};
+ghost use Rattle.spec_image.specs.Core.{core};
 ghost use Rattle.state_words.specs.Meaning.{valueIs, controlIs};
-ghost use Rattle.run_rules.specs.StepsTo.{Describes, Bounds, Called, Cleared, StepsTo, Holding, HoldingTop};
+ghost use Rattle.run_rules.specs.StepsTo.{Rest, Describes, Bounds, Called, Cleared, StepsTo, Holding, HoldingTop};
 ghost use Rattle.records.specs.Starts.{Starts};
 ghost use Rattle.run_step.specs.StepsBy.{IsInt, IsTruth, Node, AtFitState, StepsBy};
 
@@ -52,7 +55,7 @@ fn unreachable() -> Stepped
 fn next_operand(part: &[u8], m: &mut [u32], h: Registers, y: u32, z: u32, v: Value) -> Stepped
     requires { ⌜ Bounds h (now m) × (1 ≤ h .frames) × (y < 8) × (1 ≤ z) ⌝ }
     requires inside { ⌜ 12 * getD (now m) (framesAt + (h .under + (h .frames - 1)) * frameSize + (slotsFrom + y * 2)) 0 + 12 ≤ length (now part) ⌝ }
-    ensures { λ r. ⌜ ((s : List ℕ) (f : ℕ) (η : List values.Value) (g : program.Operation) (vs : List values.Value) (e : ℕ) (ns : List ℕ) (K : List Frame) (A : List Saved) (R : List ℕ) → now (m .entry) ≡ core f η (machine.gather g vs (e ∷ ns) ∷ K) A ++ R → Describes s h f (machine.gather g vs (e ∷ ns) ∷ K) A → length vs + suc (length ns) ≤ slotRoom → y ≡ length vs → z ≡ suc (length ns) → StepsTo s r (now (m .entry)) (now (m .exit)) R (running (reachL e (lookAt (now (part .entry)) e)) emptyEnv f η (machine.gather g (vs ++ (valueIs v ∷ [])) ns ∷ K) A)) ⌝ }
+    ensures { λ r. ⌜ ((s : List ℕ) (α : RunEnv) (f : ℕ) (η : List values.Value) (g : program.Operation) (vs : List values.Value) (e : ℕ) (ns : List ℕ) (K : List Frame) (A : List Saved) (R : Rest) → now (m .entry) ≡ core f η (machine.gather g vs (e ∷ ns) ∷ K) A ++ R α → Describes s h f (machine.gather g vs (e ∷ ns) ∷ K) A → length vs + suc (length ns) ≤ slotRoom → y ≡ length vs → z ≡ suc (length ns) → StepsTo s r (now (m .entry)) (now (m .exit)) R (running (reachL e (lookAt (now (part .entry)) e)) α f η (machine.gather g (vs ++ (valueIs v ∷ [])) ns ∷ K) A)) ⌝ }
 {
     let frames = h.frames - 1;
     let e = state_words::frames::frame_word(m, h.under + frames, SLOTS + y as usize * 2);
@@ -62,7 +65,7 @@ fn next_operand(part: &[u8], m: &mut [u32], h: Registers, y: u32, z: u32, v: Val
 // Ends the run by an exception, with all words of the state zero.
 fn raise(m: &mut [u32], exception: Stepped) -> Stepped
     requires { ⌜ size ≤ length (now m) ⌝ }
-    ensures { λ r. ⌜ (r ≡ exception) × (HoldingCore (now (m .entry)) (λ f η K A R. length A < callerRoom → length (K ++ savedFrames A) ≤ frameRoom → Cleared (now (m .exit)) R)) ⌝ }
+    ensures { λ r. ⌜ (r ≡ exception) × Cleared (now (m .entry)) (now (m .exit)) ⌝ }
 {
     run_rules::calling::clear(m, IMAGE_WORDS);
     exception
@@ -72,7 +75,7 @@ fn raise(m: &mut [u32], exception: Stepped) -> Stepped
 fn operate(file: &[u8], m: &mut [u32], h: Registers, o: u32, v: Value) -> Stepped
     requires { ⌜ Bounds h (now m) × (1 ≤ h .frames) × (o < 16) × (12 ≤ length (now file)) ⌝ }
     requires ints { ⌜ IsInt v × (getD (now m) (framesAt + (h .under + (h .frames - 1)) * frameSize + (slotsFrom + 0 * 2)) 0 ≡ 1) ⌝ }
-    ensures { λ r. ⌜ ((f : ℕ) (η : List values.Value) (a b : ℕ) (K : List Frame) (A : List Saved) (R : List ℕ) → now (m .entry) ≡ core f η (machine.gather (program.op o) (values.int a ∷ []) [] ∷ K) A ++ R → Describes (now (file .entry)) h f (machine.gather (program.op o) (values.int a ∷ []) [] ∷ K) A → valueIs v ≡ values.int b → StepsBy (now (file .entry)) r (now (m .entry)) (now (m .exit)) R (next.settle emptyEnv f η K A (values.result (editionOf (now (file .entry))) o a b))) ⌝ }
+    ensures { λ r. ⌜ ((α : RunEnv) (f : ℕ) (η : List values.Value) (a b : ℕ) (K : List Frame) (A : List Saved) (R : Rest) → now (m .entry) ≡ core f η (machine.gather (program.op o) (values.int a ∷ []) [] ∷ K) A ++ R α → Describes (now (file .entry)) h f (machine.gather (program.op o) (values.int a ∷ []) [] ∷ K) A → valueIs v ≡ values.int b → StepsBy (now (file .entry)) r (now (m .entry)) (now (m .exit)) R (next.settle α f η K A (values.result (editionOf (now (file .entry))) o a b))) ⌝ }
 {
     let Value::Int(b) = v else {
         return unreachable();
@@ -91,7 +94,7 @@ fn operate(file: &[u8], m: &mut [u32], h: Registers, o: u32, v: Value) -> Steppe
 // Takes the top frame off, and goes on by the bool at hand.
 fn choose(m: &mut [u32], h: Registers, v: Value, yes: Control, no: Control) -> Stepped
     requires { ⌜ Bounds h (now m) × (1 ≤ h .frames) × IsTruth v ⌝ }
-    ensures { λ r. ⌜ ((s : List ℕ) (p q : machine.Rule) → HoldingTop s (now (m .entry)) h (λ f η fr K A R. StepsBy s r (now (m .entry)) (now (m .exit)) R (next.onTruth (valueIs v) (next.goes p (running (controlIs yes) emptyEnv f η K A)) (next.goes q (running (controlIs no) emptyEnv f η K A))))) ⌝ }
+    ensures { λ r. ⌜ ((s : List ℕ) (p q : machine.Rule) → HoldingTop s (now (m .entry)) h (λ α f η fr K A R. StepsBy s r (now (m .entry)) (now (m .exit)) R (next.onTruth (valueIs v) (next.goes p (running (controlIs yes) α f η K A)) (next.goes q (running (controlIs no) α f η K A))))) ⌝ }
 {
     let Value::Truth(truth) = v else {
         return unreachable();
@@ -106,7 +109,7 @@ fn choose(m: &mut [u32], h: Registers, v: Value, yes: Control, no: Control) -> S
 // Goes on after an assert that holds, and ends the run where it does not.
 fn affirm(m: &mut [u32], h: Registers, v: Value) -> Stepped
     requires { ⌜ Bounds h (now m) × (1 ≤ h .frames) × IsTruth v ⌝ }
-    ensures { λ r. ⌜ ((s : List ℕ) (p q : machine.Rule) → HoldingTop s (now (m .entry)) h (λ f η fr K A R. StepsBy s r (now (m .entry)) (now (m .exit)) R (next.onTruth (valueIs v) (next.goes p (running (machine.exec program.Ref.nop) emptyEnv f η K A)) (next.goes q (machine.exception machine.abort))))) ⌝ }
+    ensures { λ r. ⌜ ((s : List ℕ) (p q : machine.Rule) → HoldingTop s (now (m .entry)) h (λ α f η fr K A R. StepsBy s r (now (m .entry)) (now (m .exit)) R (next.onTruth (valueIs v) (next.goes p (running (machine.exec program.Ref.nop) α f η K A)) (next.goes q (machine.exception machine.abort))))) ⌝ }
 {
     let Value::Truth(truth) = v else {
         return unreachable();
@@ -129,7 +132,7 @@ fn depart(
     requires { ⌜ Bounds h (now m) × Starts (now file) (now starts) ⌝ }
     requires outermost { ⌜ (h .callers ≡ 0 → IsInt v) ⌝ }
     requires called { ⌜ (1 ≤ h .callers → Called (now file) h (now m)) ⌝ }
-    ensures { λ r. ⌜ Holding (now (file .entry)) (now (m .entry)) h (λ f η K A R. StepsBy (now (file .entry)) r (now (m .entry)) (now (m .exit)) R (next.leaving emptyEnv (valueIs v) A)) ⌝ }
+    ensures { λ r. ⌜ Holding (now (file .entry)) (now (m .entry)) h (λ α f η K A R. StepsBy (now (file .entry)) r (now (m .entry)) (now (m .exit)) R (next.leaving α (valueIs v) A)) ⌝ }
 {
     if h.callers == 0 {
         let Value::Int(word) = v else {
@@ -150,7 +153,7 @@ fn call(
     i: usize,
 ) -> Stepped
     requires { ⌜ Bounds h (now m) × Starts (now file) (now starts) × Node (now file) (now part) i × (kindAt (now part) i ≡ 5) ⌝ }
-    ensures { λ r. ⌜ Holding (now (file .entry)) (now (m .entry)) h (λ f η K A R. now (part .entry) ≡ partOf (now (file .entry)) f → paramsOf (now (file .entry)) (bAt (now (part .entry)) i) ≡ aAt (now (part .entry)) i → StepsBy (now (file .entry)) r (now (m .entry)) (now (m .exit)) R (next.opens (programOf (now (file .entry))) (lookAt (now (part .entry)) i) emptyEnv f η K A)) ⌝ }
+    ensures { λ r. ⌜ Holding (now (file .entry)) (now (m .entry)) h (λ α f η K A R. now (part .entry) ≡ partOf (now (file .entry)) f → paramsOf (now (file .entry)) (bAt (now (part .entry)) i) ≡ aAt (now (part .entry)) i → StepsBy (now (file .entry)) r (now (m .entry)) (now (m .exit)) R (next.opens (programOf (now (file .entry))) (lookAt (now (part .entry)) i) α f η K A)) ⌝ }
 {
     let g = b_at(part, i);
     let k = wide(a_at(part, i));
@@ -169,8 +172,8 @@ fn open(
     h: Registers,
     i: u32,
 ) -> Stepped
-    requires { ⌜ Bounds h (now m) × Starts (now file) (now starts) × Node (now file) (now part) i × (2 ≤ kindAt (now part) i) × (kindAt (now part) i ≤ 5) ⌝ }
-    ensures { λ r. ⌜ Holding (now (file .entry)) (now (m .entry)) h (λ f η K A R. checkOf (now (file .entry)) ≡ accepted → now (part .entry) ≡ partOf (now (file .entry)) f → Fit (programOf (now (file .entry))) (running (machine.eval i) emptyEnv f η K A) → StepsBy (now (file .entry)) r (now (m .entry)) (now (m .exit)) R (next.opens (programOf (now (file .entry))) (lookAt (now (part .entry)) i) emptyEnv f η K A)) ⌝ }
+    requires { ⌜ Bounds h (now m) × Starts (now file) (now starts) × Node (now file) (now part) i × (isExpression (kindAt (now part) i) ≡ true) × (isConstant (kindAt (now part) i) ≡ false) ⌝ }
+    ensures { λ r. ⌜ Holding (now (file .entry)) (now (m .entry)) h (λ α f η K A R. checkOf (now (file .entry)) ≡ accepted → now (part .entry) ≡ partOf (now (file .entry)) f → Fit (programOf (now (file .entry))) (running (machine.eval i) α f η K A) → StepsBy (now (file .entry)) r (now (m .entry)) (now (m .exit)) R (next.opens (programOf (now (file .entry))) (lookAt (now (part .entry)) i) α f η K A)) ⌝ }
 {
     let at = i as usize;
     let kind = kind_at(part, at);
@@ -217,7 +220,7 @@ fn give(
     v: Value,
 ) -> Stepped
     requires { ⌜ AtFitState (now file) (now starts) (machine.val (valueIs v)) h (now m) × (now part ≡ partOf (now file) (h .function)) × (size ≤ length (now m)) ⌝ }
-    ensures { λ r. ⌜ HoldingTop (now (file .entry)) (now (m .entry)) h (λ f η fr K A R. Fit (programOf (now (file .entry))) (running (machine.val (valueIs v)) emptyEnv f η (fr ∷ K) A) → StepsBy (now (file .entry)) r (now (m .entry)) (now (m .exit)) R (next.give (programOf (now (file .entry))) (valueIs v) emptyEnv f η (fr ∷ K) A)) ⌝ }
+    ensures { λ r. ⌜ HoldingTop (now (file .entry)) (now (m .entry)) h (λ α f η fr K A R. Fit (programOf (now (file .entry))) (running (machine.val (valueIs v)) α f η (fr ∷ K) A) → StepsBy (now (file .entry)) r (now (m .entry)) (now (m .exit)) R (next.give (programOf (now (file .entry))) (valueIs v) α f η (fr ∷ K) A)) ⌝ }
 {
     let frames = h.frames - 1;
     let top = state_stack::top::top_frame(m, h.under + frames);
@@ -256,7 +259,7 @@ pub fn step(
     h: Registers,
 ) -> Stepped
     requires { ⌜ AtFitState (now file) (now starts) (controlIs c) h (now m) × (size ≤ length (now m)) ⌝ }
-    ensures { λ r. ⌜ Holding (now (file .entry)) (now (m .entry)) h (λ f η K A R. Fit (programOf (now (file .entry))) (running (controlIs c) emptyEnv f η K A) → StepsBy (now (file .entry)) r (now (m .entry)) (now (m .exit)) R (next.next (programOf (now (file .entry))) (running (controlIs c) emptyEnv f η K A))) ⌝ }
+    ensures { λ r. ⌜ Holding (now (file .entry)) (now (m .entry)) h (λ α f η K A R. Fit (programOf (now (file .entry))) (running (controlIs c) α f η K A) → StepsBy (now (file .entry)) r (now (m .entry)) (now (m .exit)) R (next.next (programOf (now (file .entry))) (running (controlIs c) α f η K A))) ⌝ }
 {
     let a = h.start;
     let e = a + 12 * h.count;

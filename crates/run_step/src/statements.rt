@@ -12,24 +12,26 @@ use state_words::layout::FRAME_BRANCH;
 use state_words::layout::FRAME_STORE;
 use state_words::layout::FRAME_WAIT;
 ghost use mathlib.Core.Path.{_≡_};
+ghost use mathlib.Core.Bool.{true};
 ghost use mathlib.Core.List.{List, _∷_, _++_};
 ghost use Prim.Native.Nat.{ℕ, _+_, _*_, _-_, _≤_, _<_};
 ghost use lib.ListN.{length};
 ghost use Rattle.records.specs.Format.{mostNodes, mostVariables};
 ghost use Rattle.records.specs.Fields.{kindAt, bAt};
 ghost use Rattle.records.specs.Parts.{partOf};
+ghost use Rattle.spec_language.specs.KindLists.{isStatement};
 ghost use Rattle.spec_language.specs.Check.{accepted, checkOf};
 ghost use Rattle.spec_machine.specs.Values as values;
 ghost use Rattle.spec_machine.specs.Program as program;
 ghost use Rattle.spec_machine.specs.Machine as machine;
-ghost use Rattle.spec_machine.specs.Machine.{emptyEnv, Frame, wait, Saved, running};
+ghost use Rattle.spec_machine.specs.Machine.{RunEnv, Frame, wait, Saved, running};
 ghost use Rattle.spec_machine.specs.Next as next;
 ghost use Rattle.spec_machine.specs.Fit.{Fit};
 ghost use Rattle.spec_machine.specs.File.{refAt, formAt, seeAt, programOf};
 ghost use Rattle.spec_image.specs.Layout.{refWord};
 ghost use Rattle.spec_image.specs.Decode.{refOf};
 ghost use Rattle.spec_image.specs.Core.{core};
-ghost use Rattle.run_rules.specs.StepsTo.{Describes, Bounds, StepsTo, Holding};
+ghost use Rattle.run_rules.specs.StepsTo.{Rest, Describes, Bounds, StepsTo, Holding};
 ghost use Rattle.run_step.specs.StepsBy.{inLoop, Executes, StepsBy};
 
 // The word of the statement at node i; nop is one and the same.
@@ -47,7 +49,7 @@ fn ref_word_at(part: &[u8], i: usize) -> u32
 // Goes on with the statement that waits in the top frame.
 fn resume(m: &mut [u32], h: Registers) -> Stepped
     requires { ⌜ Bounds h (now m) × (1 ≤ h .frames) ⌝ }
-    ensures { λ a. ⌜ ((s : List ℕ) (f : ℕ) (η : List values.Value) (r : program.Ref) (K : List Frame) (A : List Saved) (R : List ℕ) → now (m .entry) ≡ core f η (wait r ∷ K) A ++ R → Describes s h f (wait r ∷ K) A → StepsTo s a (now (m .entry)) (now (m .exit)) R (running (machine.exec r) emptyEnv f η K A)) ⌝ }
+    ensures { λ a. ⌜ ((s : List ℕ) (α : RunEnv) (f : ℕ) (η : List values.Value) (r : program.Ref) (K : List Frame) (A : List Saved) (R : Rest) → now (m .entry) ≡ core f η (wait r ∷ K) A ++ R α → Describes s h f (wait r ∷ K) A → StepsTo s a (now (m .entry)) (now (m .exit)) R (running (machine.exec r) α f η K A)) ⌝ }
 {
     let frames = h.frames - 1;
     let word = state_words::frames::frame_word(m, h.under + frames, 1);
@@ -56,9 +58,9 @@ fn resume(m: &mut [u32], h: Registers) -> Stepped
 
 // Executes the statement at node i; by kind.
 fn execute_node(part: &[u8], m: &mut [u32], h: Registers, i: u32) -> Stepped
-    requires { ⌜ Bounds h (now m) × (12 * i + 12 ≤ length (now part)) × (i < mostNodes) × (0 < i) × (7 ≤ kindAt (now part) i) × (kindAt (now part) i ≤ 14) ⌝ }
+    requires { ⌜ Bounds h (now m) × (12 * i + 12 ≤ length (now part)) × (i < mostNodes) × (0 < i) × (isStatement (kindAt (now part) i) ≡ true) ⌝ }
     requires variable { ⌜ (kindAt (now part) i ≡ 9 → bAt (now part) i < mostVariables) ⌝ }
-    ensures { λ r. ⌜ ((s : List ℕ) → Holding s (now (m .entry)) h (λ f η K A R. checkOf s ≡ accepted → now (part .entry) ≡ partOf s f → Fit (programOf s) (running (machine.exec (program.node i)) emptyEnv f η K A) → StepsBy s r (now (m .entry)) (now (m .exit)) R (next.runs (programOf s) (formAt (now (part .entry)) i) emptyEnv f η K A))) ⌝ }
+    ensures { λ r. ⌜ ((s : List ℕ) → Holding s (now (m .entry)) h (λ α f η K A R. checkOf s ≡ accepted → now (part .entry) ≡ partOf s f → Fit (programOf s) (running (machine.exec (program.node i)) α f η K A) → StepsBy s r (now (m .entry)) (now (m .exit)) R (next.runs (programOf s) (formAt (now (part .entry)) i) α f η K A))) ⌝ }
 {
     let at = i as usize;
     let last = at - 1;
@@ -121,7 +123,7 @@ fn execute_node(part: &[u8], m: &mut [u32], h: Registers, i: u32) -> Stepped
 // Executes the if that the while at node w equals, or the seq in it.
 fn execute_loop(part: &[u8], m: &mut [u32], h: Registers, w: u32, inner: bool) -> Stepped
     requires { ⌜ Bounds h (now m) × (12 * w + 12 ≤ length (now part)) × (w < mostNodes) × (0 < w) ⌝ }
-    ensures { λ r. ⌜ ((s : List ℕ) → Holding s (now (m .entry)) h (λ f η K A R. now (part .entry) ≡ partOf s f → kindAt (now (part .entry)) w ≡ 11 → StepsBy s r (now (m .entry)) (now (m .exit)) R (next.runs (programOf s) (seeAt (now (part .entry)) (inLoop inner w)) emptyEnv f η K A))) ⌝ }
+    ensures { λ r. ⌜ ((s : List ℕ) → Holding s (now (m .entry)) h (λ α f η K A R. now (part .entry) ≡ partOf s f → kindAt (now (part .entry)) w ≡ 11 → StepsBy s r (now (m .entry)) (now (m .exit)) R (next.runs (programOf s) (seeAt (now (part .entry)) (inLoop inner w)) α f η K A))) ⌝ }
 {
     let last = w as usize - 1;
     if inner {
@@ -149,7 +151,7 @@ fn execute_loop(part: &[u8], m: &mut [u32], h: Registers, w: u32, inner: bool) -
 pub fn execute(part: &[u8], m: &mut [u32], h: Registers, r: u32) -> Stepped
     requires { ⌜ Bounds h (now m) × Executes (now part) (refOf r) ⌝ }
     requires waits { ⌜ (refOf r ≡ program.Ref.nop → 1 ≤ h .frames) ⌝ }
-    ensures { λ a. ⌜ ((s : List ℕ) → Holding s (now (m .entry)) h (λ f η K A R. checkOf s ≡ accepted → now (part .entry) ≡ partOf s f → Fit (programOf s) (running (machine.exec (refOf r)) emptyEnv f η K A) → StepsBy s a (now (m .entry)) (now (m .exit)) R (next.runs (programOf s) (seeAt (now (part .entry)) (refOf r)) emptyEnv f η K A))) ⌝ }
+    ensures { λ a. ⌜ ((s : List ℕ) → Holding s (now (m .entry)) h (λ α f η K A R. checkOf s ≡ accepted → now (part .entry) ≡ partOf s f → Fit (programOf s) (running (machine.exec (refOf r)) α f η K A) → StepsBy s a (now (m .entry)) (now (m .exit)) R (next.runs (programOf s) (seeAt (now (part .entry)) (refOf r)) α f η K A))) ⌝ }
 {
     if r == 0 {
         return resume(m, h);

@@ -8,7 +8,7 @@ use lib.ListN.{length, drop}
 use Rattle.records.specs.Search.{unless}
 use Rattle.spec_language.specs.Check.{Verdict, accepted, refused, ask, Asked, questions, firstRefusal}
 use Rattle.spec_machine.specs.Values.{Value, nothing}
-use Rattle.spec_machine.specs.Machine.{State, main, emptyEnv}
+use Rattle.spec_machine.specs.Machine.{State, mainCall}
 use Rattle.spec_machine.specs.Run.{Ran, runOf, lookUp}
 use Rattle.spec_machine.specs.File.{programOf}
 use Rattle.spec_image.specs.Image.{image}
@@ -61,7 +61,7 @@ written (refused q place item) m s = m
 
 -- an accepted start writes main() with nothing waiting
 unfoldable pub startMemory : List ℕ → List ℕ → List ℕ
-startMemory s m = written (startAnswer s m) m (main emptyEnv)
+startMemory s m = written (startAnswer s m) m mainCall
 
 -- the run of the state in the memory, with an allowance
 unfoldable pub runFrom : List ℕ → List ℕ → ℕ → Ran

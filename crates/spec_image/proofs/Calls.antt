@@ -149,7 +149,7 @@ module _ (f : ℕ) (η : List Value) (K : List Frame) (A : List Saved) (R : List
           (omega (arith, count, length-saved A)) g h vs c l q n room short hc hv all most under v fewer)
 
 -- the function that is called first, in words that are zeros
-pub enter-main : (R : List ℕ) (z at g c : ℕ) → z ≡ 16384 → at ≡ 128 → c ≤ 64
+pub enter-main : (R : List ℕ) (z at g c : ℕ) → z ≡ 14720 → at ≡ 128 → c ≤ 64
     → puts (replicate z 0 ++ R) at 0 (g ∷ 0 ∷ c ∷ []) ≡ core g (replicate c nothing) [] [] ++ R
 unfolding savedActivations savedFrames
 enter-main R z at g c all place short =
@@ -218,8 +218,8 @@ module _ (f : ℕ) (η : List Value) (J : List Frame) (R : List ℕ) where
         )
         (rooms-count Z R X (L ++ savedFrames A) z a (count ∙ sym (length-saved A)) g (length L) θ 0)
 
-  -- the function that was called first is left: all words are zeros
-  pub leave-main : (size all at here : ℕ) → size ≡ length J * 20 → all ≡ 16384 → at ≡ 4480 → here ≡ 128 → length J ≤ 512
+  -- the function that was called first is left: all words but the environment's are zeros
+  pub leave-main : (size all at here : ℕ) → size ≡ length J * 20 → all ≡ 14720 → at ≡ 4480 → here ≡ 128 → length J ≤ 512
       → puts (puts (core f η J [] ++ R) at 0 (replicate size 0)) here 0 (replicate 136 0) ≡ replicate all 0 ++ R
   unfolding savedActivations savedFrames
   leave-main size all at here sized every top new fewer =

@@ -8,11 +8,11 @@ use lib.ListN.{length, getD, drop}
 use Rattle.records.proofs.Bools.{by}
 use Rattle.words.proofs.Entries.{length-entries}
 use Rattle.spec_machine.specs.Program.{Program}
-use Rattle.spec_machine.specs.Machine.{Frame, Control}
+use Rattle.spec_machine.specs.Machine.{Frame, Control, RunEnv}
 use Rattle.spec_machine.specs.Fit.{callerLimit, WithinLimits}
 use Rattle.spec_image.specs.Sizes.{activationSize, activationsAt}
 use Rattle.spec_image.specs.Layout.{Activation, activation}
-use Rattle.spec_image.specs.Decode.{activationOf, callersOf, runningOf, controlOf, activationsIn, framesIn, states, stateOf}
+use Rattle.spec_image.specs.Decode.{activationOf, callersOf, runningOf, controlOf, envOf, activationsIn, framesIn, states, stateOf}
 use Rattle.spec_image.specs.Memory.{fitWords}
 use Rattle.spec_image.proofs.Memory.{holds-fit}
 
@@ -23,17 +23,17 @@ length-callers [] K = refl
 length-callers (activation f k η ∷ X) K = ap suc (length-callers X (drop k K))
 
 -- more activations than the limit pass it, main's empty caller being counted
-passes-limit : (c : Control) (X : List Activation) (K : List Frame) → callerLimit < length X → ¬ WithinLimits (runningOf c X K)
+passes-limit : (c : Control) (α : RunEnv) (X : List Activation) (K : List Frame) → callerLimit < length X → ¬ WithinLimits (runningOf c α X K)
 unfolding runningOf
-passes-limit c [] K h w = absurd (omega arith)
-passes-limit c (activation f k η ∷ X) K h w = absurd (omega (arith, length-callers X (drop k K), w .0))
+passes-limit c α [] K h w = absurd (omega arith)
+passes-limit c α (activation f k η ∷ X) K h w = absurd (omega (arith, length-callers X (drop k K), w .0))
 
 pub deep-unfit : (P : Program) (m : List ℕ) → getD m 0 0 ≡ 2 → callerLimit < getD m 2 0 → fitWords P m ≡ false
 unfolding stateOf states activationsIn
 deep-unfit P m running h = by (fitWords P m) fit (λ e. e)
   where
     deep : ¬ WithinLimits (stateOf m)
-    deep = rw running (passes-limit (controlOf (getD m 3 0) (getD m 4 0)) (activationsIn m) (framesIn m) (omega (arith, length-entries activationSize activationOf m activationsAt (getD m 2 0))))
+    deep = rw running (passes-limit (controlOf (getD m 3 0) (getD m 4 0)) (envOf m) (activationsIn m) (framesIn m) (omega (arith, length-entries activationSize activationOf m activationsAt (getD m 2 0))))
 
     fit : fitWords P m ≡ true → fitWords P m ≡ false
     fit e = absurd (deep (holds-fit P m e .1 .within))

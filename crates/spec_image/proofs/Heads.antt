@@ -1,19 +1,21 @@
 -- The head and the frame count stored and taken out: between the image of a state and its words while it runs.
 use mathlib.Core.Path.{_≡_, refl, sym, ap, _∙_}
 use mathlib.Core.List.{List, [], _∷_, _++_, append-assoc}
+use mathlib.Core.Option.{none, some}
 use Prim.Native.Nat.{ℕ, suc, _+_, _*_, _-_, _≤_, _<_}
 use native.Mathlib.Omega.{arith}
-use lib.ListN.{length, getD, set, replicate, length-append, length-replicate, replicate-append-replicate}
+use lib.ListN.{length, getD, set, drop, replicate, length-append, length-replicate, replicate-append-replicate}
+use lib.Seq.{drop-at}
 use Rattle.words.specs.Blocks.{puts}
 use Rattle.words.specs.Stacks.{region}
 use Rattle.words.proofs.Blocks.{puts-block, puts-inside}
 use Rattle.spec_machine.specs.Values.{Value, nothing, int, truth}
-use Rattle.spec_machine.specs.Machine.{Exception, abort, Frame, Control, val, eval, exec, Saved, RunEnv, State, exception, main, returned, running}
-use Rattle.spec_image.specs.Layout.{filled, frameWords, controlWords, Activation, activation, activationWords}
-use Rattle.spec_image.specs.Image.{savedActivations, savedFrames, headWords, activationsOf, framesOf, image}
+use Rattle.spec_machine.specs.Machine.{Exception, abort, Frame, Control, val, eval, exec, Saved, RunEnv, State, exception, calling, returned, running}
+use Rattle.spec_image.specs.Layout.{filled, frameWords, controlWords, Activation, activation, activationWords, envWords}
+use Rattle.spec_image.specs.Image.{savedActivations, savedFrames, headWords, activationsOf, framesOf, envPart, image, exceptionTag}
 use Rattle.spec_image.specs.Core.{core}
 use Rattle.spec_image.proofs.BlockLengths.{length-filled}
-use Rattle.spec_image.proofs.Images.{length-saved, head-word}
+use Rattle.spec_image.proofs.Images.{length-saved, length-env, image-parts, head-word}
 use Rattle.spec_image.proofs.Rooms.{rooms, filled-is, length-rooms, activations-open, activation-word}
 use Rattle.spec_image.proofs.Frames.{core-rooms}
 use Rattle.spec_image.proofs.Variables.{rooms-count}
@@ -41,14 +43,14 @@ module _ (R : List ℕ) (X : List Activation) (F : List Frame) where
   pub rooms-head : (us vs : List ℕ) → length us ≤ length vs → length vs ≤ 128
       → puts (rooms (filled 128 us) X F ++ R) 0 0 vs ≡ rooms (filled 128 vs) X F ++ R
   rooms-head us vs h k =
-      let r : List ℕ = region 136 activationWords 32 X ++ (region 20 frameWords 512 F ++ (replicate 1664 0 ++ R)) in
+      let r : List ℕ = region 136 activationWords 32 X ++ (region 20 frameWords 512 F ++ R) in
       let n : 0 + (0 + length vs) ≤ length (filled 128 us) = omega (arith, k, length-filled 128 us) in
       rw (activations-open (filled 128 us) R X F, activations-open (filled 128 vs) R X F, ← filled-over 128 us vs h k)
       (puts-inside vs (filled 128 us) [] r 0 0 0 refl n)
 
-pub image-rooms : (s : State) → image s ≡ rooms (filled 128 (headWords s)) (activationsOf s) (framesOf s)
-unfolding image rooms
-image-rooms s = refl
+pub image-rooms : (s : State) (R : List ℕ) → image s ++ R ≡ rooms (filled 128 (headWords s)) (activationsOf s) (framesOf s) ++ (envPart s ++ R)
+unfolding rooms
+image-rooms s R = image-parts s R ∙ simp append-assoc
 
 -- ---- a running state
 
@@ -75,14 +77,14 @@ module _ (c : Control) (α : RunEnv) (f : ℕ) (η : List Value) (K : List Frame
   unfolding headWords
   five = omega (arith, length-control c)
 
-  running-rooms : image (running c α f η K A)
-      ≡ rooms (filled 128 (headWords (running c α f η K A))) (activation f (length K) η ∷ savedActivations A) (K ++ savedFrames A)
-  unfolding activationsOf framesOf
-  running-rooms = image-rooms (running c α f η K A)
+  running-rooms : image (running c α f η K A) ++ R
+      ≡ rooms (filled 128 (headWords (running c α f η K A))) (activation f (length K) η ∷ savedActivations A) (K ++ savedFrames A) ++ (envWords α ++ R)
+  unfolding activationsOf framesOf envPart
+  running-rooms = image-rooms (running c α f η K A) R
 
   -- the five words of the head and the frame count are stored
   pub store-head : (n k x y : ℕ) → n ≡ a + 1 → k ≡ length K → controlWords c ≡ x ∷ y ∷ []
-      → set (puts (core f η K A ++ R) 0 0 (2 ∷ 0 ∷ n ∷ x ∷ y ∷ [])) b k ≡ image (running c α f η K A) ++ R
+      → set (puts (core f η K A ++ (envWords α ++ R)) 0 0 (2 ∷ 0 ∷ n ∷ x ∷ y ∷ [])) b k ≡ image (running c α f η K A) ++ R
   unfolding headWords
   store-head n k x y hn hk e =
       let z : replicate {A = ℕ} 128 0 ≡ filled 128 [] = zeros-filled 128 0 (omega arith) in
@@ -95,13 +97,13 @@ module _ (c : Control) (α : RunEnv) (f : ℕ) (η : List Value) (K : List Frame
         w,
         core-rooms f η K A,
         z,
-        rooms-head R (activation f 0 η ∷ savedActivations A) (K ++ savedFrames A) [] (2 ∷ 0 ∷ n ∷ x ∷ y ∷ []) (omega arith) (omega arith),
+        rooms-head (envWords α ++ R) (activation f 0 η ∷ savedActivations A) (K ++ savedFrames A) [] (2 ∷ 0 ∷ n ∷ x ∷ y ∷ []) (omega arith) (omega arith),
       )
-      (rooms-count (filled 128 (2 ∷ 0 ∷ n ∷ x ∷ y ∷ [])) R (savedActivations A) (K ++ savedFrames A)
+      (rooms-count (filled 128 (2 ∷ 0 ∷ n ∷ x ∷ y ∷ [])) (envWords α ++ R) (savedActivations A) (K ++ savedFrames A)
       (length-filled 128 (2 ∷ 0 ∷ n ∷ x ∷ y ∷ [])) a known f 0 η (length K))
 
   -- they are taken out
-  pub clear-head : set (puts (image (running c α f η K A) ++ R) 0 0 (0 ∷ 0 ∷ 0 ∷ 0 ∷ 0 ∷ [])) b 0 ≡ core f η K A ++ R
+  pub clear-head : set (puts (image (running c α f η K A) ++ R) 0 0 (0 ∷ 0 ∷ 0 ∷ 0 ∷ 0 ∷ [])) b 0 ≡ core f η K A ++ (envWords α ++ R)
   clear-head =
       let z : replicate {A = ℕ} 128 0 ≡ filled 128 (0 ∷ 0 ∷ 0 ∷ 0 ∷ 0 ∷ []) = zeros-filled 128 5 (omega arith) in
       rw (
@@ -109,10 +111,10 @@ module _ (c : Control) (α : RunEnv) (f : ℕ) (η : List Value) (K : List Frame
         running-rooms,
         core-rooms f η K A,
         z,
-        rooms-head R (activation f (length K) η ∷ savedActivations A) (K ++ savedFrames A) (headWords (running c α f η K A)) (0 ∷ 0 ∷ 0 ∷ 0 ∷ 0 ∷ [])
+        rooms-head (envWords α ++ R) (activation f (length K) η ∷ savedActivations A) (K ++ savedFrames A) (headWords (running c α f η K A)) (0 ∷ 0 ∷ 0 ∷ 0 ∷ 0 ∷ [])
             five (omega arith),
       )
-      (rooms-count (filled 128 (0 ∷ 0 ∷ 0 ∷ 0 ∷ 0 ∷ [])) R (savedActivations A) (K ++ savedFrames A)
+      (rooms-count (filled 128 (0 ∷ 0 ∷ 0 ∷ 0 ∷ 0 ∷ [])) (envWords α ++ R) (savedActivations A) (K ++ savedFrames A)
       (length-filled 128 (0 ∷ 0 ∷ 0 ∷ 0 ∷ 0 ∷ [])) a known f (length K) η 0)
 
   -- the frame count is read
@@ -120,7 +122,7 @@ module _ (c : Control) (α : RunEnv) (f : ℕ) (η : List Value) (K : List Frame
   unfolding activationWords filled
   frame-count =
       rw (place, running-rooms)
-      (activation-word (filled 128 (headWords (running c α f η K A))) R (savedActivations A) (K ++ savedFrames A)
+      (activation-word (filled 128 (headWords (running c α f η K A))) (envWords α ++ R) (savedActivations A) (K ++ savedFrames A)
       (length-filled 128 (headWords (running c α f η K A))) a known (activation f (length K) η) 1 (omega arith))
 
 -- ---- at rest
@@ -129,74 +131,68 @@ module _ (c : Control) (α : RunEnv) (f : ℕ) (η : List Value) (K : List Frame
 abbrev pub Resting : State → Type 0
 Resting (State.value c) = Unit {0}
 Resting (exception x) = Unit {0}
-Resting (main α) = Unit {0}
+Resting (calling α o) = Unit {0}
 Resting (returned α c) = Unit {0}
 Resting (running c α f η K A) = ⊥
 
 -- its head
-abbrev pub exceptionTag : Exception → ℕ
-exceptionTag Exception.arith = 5
-exceptionTag abort = 6
-
 abbrev pub restWords : State → List ℕ
 restWords (State.value c) = 4 ∷ c ∷ []
 restWords (exception x) = exceptionTag x ∷ []
-restWords (main α) = 1 ∷ []
+restWords (calling α none) = 1 ∷ []
+restWords (calling α (some n)) = 9 ∷ n ∷ []
 restWords (returned α c) = 3 ∷ c ∷ []
 restWords (running c α f η K A) = []
 
-pub rest-rooms : (s : State) → Resting s → image s ≡ rooms (filled 128 (restWords s)) [] []
+pub rest-rooms : (s : State) (R : List ℕ) → Resting s → image s ++ R ≡ rooms (filled 128 (restWords s)) [] [] ++ (envPart s ++ R)
 unfolding headWords activationsOf framesOf
-rest-rooms (State.value c) r = image-rooms (State.value c)
-rest-rooms (exception Exception.arith) r = image-rooms (exception Exception.arith)
-rest-rooms (exception abort) r = image-rooms (exception abort)
-rest-rooms (main α) r = image-rooms (main α)
-rest-rooms (returned α c) r = image-rooms (returned α c)
-rest-rooms (running c α f η K A) r = absurd r
+rest-rooms (State.value c) R r = image-rooms (State.value c) R
+rest-rooms (exception Exception.arith) R r = image-rooms (exception Exception.arith) R
+rest-rooms (exception abort) R r = image-rooms (exception abort) R
+rest-rooms (calling α none) R r = image-rooms (calling α none) R
+rest-rooms (calling α (some n)) R r = image-rooms (calling α (some n)) R
+rest-rooms (returned α c) R r = image-rooms (returned α c) R
+rest-rooms (running c α f η K A) R r = absurd r
 
 rest-short : (s : State) → length (restWords s) ≤ 2
 rest-short (State.value c) = omega arith
 rest-short (exception x) = omega arith
-rest-short (main α) = omega arith
+rest-short (calling α none) = omega arith
+rest-short (calling α (some n)) = omega arith
 rest-short (returned α c) = omega arith
 rest-short (running c α f η K A) = omega arith
 
 -- rooms of nothing are zeros
-zeros-append : (a b c d z : ℕ) → z ≡ a + (b + (c + d))
-    → replicate {A = ℕ} a 0 ++ (replicate b 0 ++ (replicate c 0 ++ replicate d 0)) ≡ replicate z 0
-zeros-append a b c d z e =
-    rw (replicate-append-replicate {A = ℕ} c d 0, replicate-append-replicate {A = ℕ} b (c + d) 0, replicate-append-replicate {A = ℕ} a (b + (c + d)) 0, e)
+zeros-append : (a b c z : ℕ) → z ≡ a + (b + c) → replicate {A = ℕ} a 0 ++ (replicate b 0 ++ replicate c 0) ≡ replicate z 0
+zeros-append a b c z e = rw (replicate-append-replicate {A = ℕ} b c 0, replicate-append-replicate {A = ℕ} a (b + c) 0, e)
 
-pub empty-rooms : (z : ℕ) → z ≡ 16384 → rooms (replicate 128 0) [] [] ≡ replicate z 0
+pub empty-rooms : (z : ℕ) → z ≡ 14720 → rooms (replicate 128 0) [] [] ≡ replicate z 0
 unfolding rooms
-empty-rooms z e = zeros-append 128 4352 10240 1664 z e
+empty-rooms z e = zeros-append 128 4352 10240 z e
 
-module _ (s : State) (R : List ℕ) (rest : Resting s) (z : ℕ) (all : z ≡ 16384) where
+module _ (s : State) (R : List ℕ) (rest : Resting s) (z : ℕ) (all : z ≡ 14720) where
   -- its head is stored in zeros
-  pub store-rest : puts (replicate z 0 ++ R) 0 0 (restWords s) ≡ image s ++ R
+  pub store-rest : puts (replicate z 0 ++ (envPart s ++ R)) 0 0 (restWords s) ≡ image s ++ R
   store-rest =
       let e : replicate {A = ℕ} 128 0 ≡ filled 128 [] = zeros-filled 128 0 (omega arith) in
-      rw (← empty-rooms z all, rest-rooms s rest, e) (rooms-head R [] [] [] (restWords s) (omega arith) (omega (arith, rest-short s)))
+      rw (← empty-rooms z all, rest-rooms s R rest, e) (rooms-head (envPart s ++ R) [] [] [] (restWords s) (omega arith) (omega (arith, rest-short s)))
 
   -- it is taken out
-  pub clear-rest : puts (image s ++ R) 0 0 (0 ∷ 0 ∷ []) ≡ replicate z 0 ++ R
+  pub clear-rest : puts (image s ++ R) 0 0 (0 ∷ 0 ∷ []) ≡ replicate z 0 ++ (envPart s ++ R)
   clear-rest =
       let e : replicate {A = ℕ} 128 0 ≡ filled 128 (0 ∷ 0 ∷ []) = zeros-filled 128 2 (omega arith) in
-      rw (← empty-rooms z all, rest-rooms s rest, e) (rooms-head R [] [] (restWords s) (0 ∷ 0 ∷ []) (rest-short s) (omega arith))
+      rw (← empty-rooms z all, rest-rooms s R rest, e) (rooms-head (envPart s ++ R) [] [] (restWords s) (0 ∷ 0 ∷ []) (rest-short s) (omega arith))
 
 -- ---- a running state that ends
 
 module _ (f : ℕ) (η : List Value) (K : List Frame) (A : List Saved) (few : length A < 32) (fewer : length (K ++ savedFrames A) ≤ 512) where
-  pub core-length : length (core f η K A) ≡ 16384
+  pub core-length : length (core f η K A) ≡ 14720
   core-length =
       rw (core-rooms f η K A)
       (length-rooms (replicate 128 0) [] (activation f 0 η ∷ savedActivations A) (K ++ savedFrames A) (length-replicate {A = ℕ} 128 0) (omega (arith, few, length-saved A)) fewer)
 
-  -- all its words are taken out
-  pub clear-core : (R : List ℕ) (z : ℕ) → z ≡ 16384 → puts (core f η K A ++ R) 0 0 (replicate z 0) ≡ replicate z 0 ++ R
-  clear-core R z all = puts-block (replicate z 0) (core f η K A) [] R 0 0 refl (core-length ∙ sym all ∙ sym (length-replicate z 0))
-
-  -- and the head of its end is stored
-  pub store-end : (s : State) (R : List ℕ) → Resting s → (z : ℕ) → z ≡ 16384
-      → puts (puts (core f η K A ++ R) 0 0 (replicate z 0)) 0 0 (restWords s) ≡ image s ++ R
-  store-end s R rest z all = rw (clear-core R z all) (store-rest s R rest z all)
+  -- what follows all its words and those of its environment
+  pub past-core : (α : RunEnv) (R : List ℕ) (z : ℕ) → z ≡ 16384 → drop z (core f η K A ++ (envWords α ++ R)) ≡ R
+  past-core α R z all =
+      let n : length (core f η K A ++ envWords α) ≡ z = omega (arith, length-append (core f η K A) (envWords α), core-length, length-env α) in
+      rw (← append-assoc (core f η K A) (envWords α) R) (drop-at (core f η K A ++ envWords α) R z n)

@@ -1,22 +1,25 @@
 -- The image of a state within the limits has 16,384 words, and the state is read back from it.
 use mathlib.Core.Path.{_≡_, refl, sym, ap, _∙_}
 use mathlib.Core.List.{List, [], _∷_, _++_, append-assoc, append-nil}
+use mathlib.Core.Option.{none, some}
 use Prim.Native.Nat.{ℕ, suc, _+_, _≤_, _<_}
 use native.Mathlib.Nat.{le-trans}
 use native.Mathlib.Omega.{arith}
-use lib.ListN.{length, getD, replicate, length-append, length-replicate, List·getD-append}
+use lib.ListN.{length, getD, take, drop, replicate, length-append, length-replicate, List·getD-append}
 use lib.Seq.{take-at, drop-at}
 use Rattle.words.specs.Stacks.{region, Wide, Back, total}
 use Rattle.words.proofs.Stacks.{every, length-region}
+use Rattle.words.proofs.Blocks.{getD-block}
 use Rattle.words.proofs.Entries.{entries-region}
 use Rattle.spec_machine.specs.Values.{Value}
-use Rattle.spec_machine.specs.Machine.{Exception, abort, Frame, Control, Saved, saved, emptyEnv, State, exception, main, returned, running}
+use Rattle.spec_machine.specs.Program.{Program}
+use Rattle.spec_machine.specs.Machine.{Exception, abort, Frame, Control, Saved, saved, RunEnv, State, exception, calling, returned, running}
 use Rattle.spec_machine.specs.Fit as fit
-use Rattle.spec_machine.specs.Fit.{WithinLimits, callerLimit, frameLimit}
+use Rattle.spec_machine.specs.Fit.{WithinLimits, Proper, callerLimit, frameLimit}
 use Rattle.spec_image.specs.Sizes.{callerRoom, frameRoom}
-use Rattle.spec_image.specs.Layout.{filled, frameWords, activationWords}
-use Rattle.spec_image.specs.Image.{savedActivations, savedFrames, headWords, activationsOf, framesOf, image}
-use Rattle.spec_image.specs.Decode.{frameOf, controlOf, activationOf, framesHeld, callersOf, runningOf, activationsIn, framesIn, states, stateOf}
+use Rattle.spec_image.specs.Layout.{filled, frameWords, activationWords, envWords}
+use Rattle.spec_image.specs.Image.{savedActivations, savedFrames, headWords, activationsOf, framesOf, envPart, image}
+use Rattle.spec_image.specs.Decode.{frameOf, controlOf, activationOf, framesHeld, callersOf, runningOf, envOf, activationsIn, framesIn, states, stateOf}
 use Rattle.spec_image.specs.Narrow.{NarrowFrame, NarrowActivation, Narrow}
 use Rattle.spec_image.proofs.ValueWords.{control-back}
 use Rattle.spec_image.proofs.BlockLengths.{length-filled, filled-at, frame-wide, frame-back, activation-wide, activation-back, every-so}
@@ -44,7 +47,7 @@ pub few-activations : (s : State) → WithinLimits s → length (activationsOf s
 unfolding activationsOf
 few-activations (State.value c) w = omega arith
 few-activations (exception x) w = omega arith
-few-activations (main α) w = omega arith
+few-activations (calling α o) w = omega arith
 few-activations (returned α c) w = omega arith
 few-activations (running c α f η K A) w = omega (arith, w .0, callers-room, length-saved A)
 
@@ -52,7 +55,7 @@ pub few-frames : (s : State) → WithinLimits s → length (framesOf s) ≤ 512
 unfolding framesOf
 few-frames (State.value c) w = omega arith
 few-frames (exception x) w = omega arith
-few-frames (main α) w = omega arith
+few-frames (calling α o) w = omega arith
 few-frames (returned α c) w = omega arith
 few-frames (running c α f η K A) w = simp (length-append, length-frames A) (le-trans (w .1) frames-room)
 
@@ -66,9 +69,22 @@ pub frames-held : (s : State) → total framesHeld (activationsOf s) ≡ length 
 unfolding activationsOf framesOf framesHeld
 frames-held (State.value c) = refl
 frames-held (exception x) = refl
-frames-held (main α) = refl
+frames-held (calling α o) = refl
 frames-held (returned α c) = refl
 frames-held (running c α f η K A) = simp (length-append, saved-held A)
+
+-- the environment has its 1,664 words
+pub length-env : (α : RunEnv) → length (envWords α) ≡ 1664
+unfolding envWords
+length-env α = length-filled 1664 _
+
+pub length-part : (s : State) → length (envPart s) ≡ 1664
+unfolding envPart
+length-part (State.value c) = length-replicate {A = ℕ} 1664 0
+length-part (exception x) = length-replicate {A = ℕ} 1664 0
+length-part (calling α o) = length-env α
+length-part (returned α c) = length-env α
+length-part (running c α f η K A) = length-env α
 
 length-three : (a b c : List ℕ) → length (a ++ (b ++ c)) ≡ length a + (length b + length c)
 length-three a b c = simp length-append
@@ -92,16 +108,16 @@ module _ (s : State) where
   image-length w =
       omega (
         arith,
-        length-three (filled 128 (headWords s)) activationRegion (frameRegion ++ replicate 1664 0),
-        length-append frameRegion (replicate 1664 0),
+        length-three (filled 128 (headWords s)) activationRegion (frameRegion ++ envPart s),
+        length-append frameRegion (envPart s),
         length-filled 128 (headWords s),
         length-activations w,
         length-stack w,
-        length-replicate {A = ℕ} 1664 0,
+        length-part s,
       )
 
   -- the head, the activations, the frames, and what is left
-  pub image-parts : (R : List ℕ) → image s ++ R ≡ filled 128 (headWords s) ++ (activationRegion ++ (frameRegion ++ (replicate 1664 0 ++ R)))
+  pub image-parts : (R : List ℕ) → image s ++ R ≡ filled 128 (headWords s) ++ (activationRegion ++ (frameRegion ++ (envPart s ++ R)))
   unfolding image
   image-parts R = simp append-assoc
 
@@ -118,7 +134,8 @@ unfolding headWords activationsOf
 count-in (State.value c) = refl
 count-in (exception Exception.arith) = refl
 count-in (exception abort) = refl
-count-in (main α) = refl
+count-in (calling α none) = refl
+count-in (calling α (some c)) = refl
 count-in (returned α c) = refl
 count-in (running c α f η K A) = rw (length-saved A)
 
@@ -136,11 +153,54 @@ module _ (s : State) (R : List ℕ) (n : Narrow s) where
   frames-in w =
       let H = filled 128 (headWords s) ++ activationRegion s in
       let k : length H ≡ 4480 = omega (arith, length-append (filled 128 (headWords s)) (activationRegion s), length-filled 128 (headWords s), length-activations s w) in
-      let e : image s ++ R ≡ H ++ (frameRegion s ++ (replicate 1664 0 ++ R)) = image-parts s R ∙ sym (append-assoc (filled 128 (headWords s)) (activationRegion s) _) in
+      let e : image s ++ R ≡ H ++ (frameRegion s ++ (envPart s ++ R)) = image-parts s R ∙ sym (append-assoc (filled 128 (headWords s)) (activationRegion s) _) in
       rw (activations-in, frames-held s, e)
-      (entries-region 20 frameWords frameOf H (replicate 1664 0 ++ R) 512 4480 (framesOf s) k
+      (entries-region 20 frameWords frameOf H (envPart s ++ R) 512 4480 (framesOf s) k
       (every (Wide 20 frameWords) frame-wide (framesOf s))
       (every-so NarrowFrame (Back frameWords frameOf) frame-back (framesOf s) (n .frames)))
+
+-- the environment of a run of main is zeros, and so it is in every fit state
+pub env-zero : (α : RunEnv) → α .entry ≡ 0 → envWords α ≡ replicate 1664 0
+unfolding envWords filled
+env-zero α e = rw e
+
+pub part-zero : (P : Program) (s : State) → Proper P s → envPart s ≡ replicate 1664 0
+unfolding envPart
+part-zero P (State.value c) h = refl
+part-zero P (exception x) h = refl
+part-zero P (calling α o) h = env-zero α (h .0)
+part-zero P (returned α c) h = env-zero α h
+part-zero P (running c α f η K A) h = env-zero α (h .entry)
+
+-- the environment is read back
+module _ (s : State) (R : List ℕ) (w : WithinLimits s) where
+  abbrev before : List ℕ
+  before = filled 128 (headWords s) ++ (activationRegion s ++ frameRegion s)
+
+  before-length : length before ≡ 14720
+  before-length =
+      omega (
+        arith,
+        length-three (filled 128 (headWords s)) (activationRegion s) (frameRegion s),
+        length-filled 128 (headWords s),
+        length-activations s w,
+        length-stack s w,
+      )
+
+  env-word : (j : ℕ) → j < 1664 → getD (image s ++ R) (14720 + j) 0 ≡ getD (envPart s) j 0
+  env-word j h =
+      let e : image s ++ R ≡ before ++ (envPart s ++ R) = image-parts s R ∙ simp append-assoc in
+      rw e (getD-block before (envPart s) R 14720 j before-length (rw (length-part s) h))
+
+  -- its words are the last of the image
+  pub env-in : take 1664 (drop 14720 (image s ++ R)) ≡ envPart s
+  env-in =
+      let e : image s ++ R ≡ before ++ (envPart s ++ R) = image-parts s R ∙ simp append-assoc in
+      rw (e, drop-at before (envPart s ++ R) 14720 before-length) (take-at (envPart s) R 1664 (length-part s))
+
+  pub env-back : (α : RunEnv) → envPart s ≡ envWords α → envOf (image s ++ R) ≡ α
+  unfolding envOf envWords
+  env-back α e = let q : getD (image s ++ R) 14721 0 ≡ α .entry = env-word 1 (omega arith) ∙ rw e (filled-at 1664 (0 ∷ α .entry ∷ []) 1 (omega arith)) in rw q
 
 -- the frames cut into those of each caller
 pub callers-back : (A : List Saved) → callersOf (savedActivations A) (savedFrames A) ≡ A
@@ -148,17 +208,18 @@ unfolding callersOf savedActivations savedFrames
 callers-back [] = refl
 callers-back (saved g θ L ∷ A) = rw (take-at L (savedFrames A) (length L) refl, drop-at L (savedFrames A) (length L) refl, callers-back A)
 
-running-back : (c : Control) (f : ℕ) (η : List Value) (K : List Frame) (A : List Saved) (R : List ℕ) → let s = running c emptyEnv f η K A in
-    WithinLimits s → Narrow s → let m = image s ++ R in runningOf (controlOf (getD m 3 0) (getD m 4 0)) (activationsIn m) (framesIn m) ≡ s
-unfolding runningOf headWords activationsOf framesOf
-running-back c f η K A R w n =
-    let s = running c emptyEnv f η K A in
+running-back : (c : Control) (α : RunEnv) (f : ℕ) (η : List Value) (K : List Frame) (A : List Saved) (R : List ℕ) → let s = running c α f η K A in
+    WithinLimits s → Narrow s → let m = image s ++ R in runningOf (controlOf (getD m 3 0) (getD m 4 0)) (envOf m) (activationsIn m) (framesIn m) ≡ s
+unfolding runningOf headWords activationsOf framesOf envPart
+running-back c α f η K A R w n =
+    let s = running c α f η K A in
     rw (
       activations-in s R n,
       frames-in s R n w,
       head-word s R 3 (omega arith),
       head-word s R 4 (omega arith),
       control-back c,
+      env-back s R w α refl,
       take-at K (savedFrames A) (length K) refl,
       drop-at K (savedFrames A) (length K) refl,
       callers-back A,
@@ -166,13 +227,18 @@ running-back c f η K A R w n =
 
 -- the state is read back from its image, whatever follows it
 pub decode-image : (s : State) → WithinLimits s → Narrow s → (R : List ℕ) → stateOf (image s ++ R) ≡ s
-unfolding stateOf states headWords
+unfolding stateOf states headWords envPart
 decode-image (State.value c) w n R = rw (head-word (State.value c) R 0 (omega arith), head-word (State.value c) R 1 (omega arith))
 decode-image (exception Exception.arith) w n R = rw (head-word (exception Exception.arith) R 0 (omega arith))
 decode-image (exception abort) w n R = rw (head-word (exception abort) R 0 (omega arith))
-decode-image (main emptyEnv) w n R = rw (head-word (main emptyEnv) R 0 (omega arith))
-decode-image (returned emptyEnv c) w n R = rw (head-word (returned emptyEnv c) R 0 (omega arith), head-word (returned emptyEnv c) R 1 (omega arith))
-decode-image (running c emptyEnv f η K A) w n R = rw (head-word (running c emptyEnv f η K A) R 0 (omega arith)) (running-back c f η K A R w n)
+decode-image (calling α none) w n R = rw (head-word (calling α none) R 0 (omega arith), env-back (calling α none) R w α refl)
+decode-image (calling α (some c)) w n R =
+    let s = calling α (some c) in
+    rw (head-word s R 0 (omega arith), head-word s R 1 (omega arith), env-back s R w α refl)
+decode-image (returned α c) w n R =
+    let s = returned α c in
+    rw (head-word s R 0 (omega arith), head-word s R 1 (omega arith), env-back s R w α refl)
+decode-image (running c α f η K A) w n R = rw (head-word (running c α f η K A) R 0 (omega arith)) (running-back c α f η K A R w n)
 
 -- states within the limits, and narrow, with one image are one state
 pub image-inj : (s t : State) → WithinLimits s → Narrow s → WithinLimits t → Narrow t → image s ≡ image t → s ≡ t
@@ -184,7 +250,8 @@ unfolding headWords
 tagged (State.value c) = omega arith
 tagged (exception Exception.arith) = omega arith
 tagged (exception abort) = omega arith
-tagged (main α) = omega arith
+tagged (calling α none) = omega arith
+tagged (calling α (some c)) = omega arith
 tagged (returned α c) = omega arith
 tagged (running c α f η K A) = omega arith
 

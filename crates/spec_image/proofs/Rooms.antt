@@ -15,9 +15,9 @@ use Rattle.spec_image.specs.Layout.{filled, frameWords, Activation, acti
 use Rattle.spec_image.proofs.ValueWords.{take-over}
 use Rattle.spec_image.proofs.BlockLengths.{frame-wide, activation-wide}
 
--- a head, activations in their room, frames in theirs, and zeros
+-- a head, activations in their room, and frames in theirs
 unfoldable pub rooms : List ℕ → List Activation → List Frame → List ℕ
-rooms H X F = H ++ (region 136 activationWords 32 X ++ (region 20 frameWords 512 F ++ replicate 1664 0))
+rooms H X F = H ++ (region 136 activationWords 32 X ++ region 20 frameWords 512 F)
 
 -- ---- blocks
 
@@ -97,18 +97,18 @@ module _ (H R : List ℕ) (X : List Activation) (F : List Frame) where
   under = (H ++ region 136 activationWords 32 X) ++ words frameWords F
 
   abbrev over : List ℕ
-  over = replicate ((512 - suc (length F)) * 20) 0 ++ (replicate 1664 0 ++ R)
+  over = replicate ((512 - suc (length F)) * 20) 0 ++ R
 
-  frames-open : rooms H X F ++ R ≡ (H ++ region 136 activationWords 32 X) ++ (region 20 frameWords 512 F ++ (replicate 1664 0 ++ R))
+  frames-open : rooms H X F ++ R ≡ (H ++ region 136 activationWords 32 X) ++ (region 20 frameWords 512 F ++ R)
   unfolding rooms
   frames-open = simp append-assoc
 
 module _ (H R : List ℕ) (X : List Activation) (F : List Frame) where
   frame-free : length F < 512 → rooms H X F ++ R ≡ under H R X F ++ (replicate 20 0 ++ over H R X F)
-  frame-free h = frames-open H R X F ∙ place-free 20 frameWords (H ++ region 136 activationWords 32 X) (replicate 1664 0 ++ R) 512 F h
+  frame-free h = frames-open H R X F ∙ place-free 20 frameWords (H ++ region 136 activationWords 32 X) R 512 F h
 
   frame-held : (fr : Frame) → rooms H X (fr ∷ F) ++ R ≡ under H R X F ++ (frameWords fr ++ over H R X F)
-  frame-held fr = frames-open H R X (fr ∷ F) ∙ place-held 20 frameWords (H ++ region 136 activationWords 32 X) (replicate 1664 0 ++ R) 512 F fr
+  frame-held fr = frames-open H R X (fr ∷ F) ∙ place-held 20 frameWords (H ++ region 136 activationWords 32 X) R 512 F fr
 
 module _ (H R : List ℕ) (X : List Activation) (F : List Frame) (head : length H ≡ 128) (few : length X ≤ 32) where
   length-front : length (H ++ region 136 activationWords 32 X) ≡ 4480
@@ -119,18 +119,16 @@ module _ (H R : List ℕ) (X : List Activation) (F : List Frame) (head : length 
         length-region 136 activationWords 32 X (every (Wide 136 activationWords) activation-wide X) few,
       )
 
-  pub length-rooms : length F ≤ 512 → length (rooms H X F) ≡ 16384
+  pub length-rooms : length F ≤ 512 → length (rooms H X F) ≡ 14720
   unfolding rooms
   length-rooms h =
       omega (
         arith,
-        length-append H (region 136 activationWords 32 X ++ (region 20 frameWords 512 F ++ replicate 1664 0)),
-        length-append (region 136 activationWords 32 X) (region 20 frameWords 512 F ++ replicate 1664 0),
-        length-append (region 20 frameWords 512 F) (replicate 1664 0),
+        length-append H (region 136 activationWords 32 X ++ region 20 frameWords 512 F),
+        length-append (region 136 activationWords 32 X) (region 20 frameWords 512 F),
         length-append H (region 136 activationWords 32 X),
         length-front,
         length-region 20 frameWords 512 F (every (Wide 20 frameWords) frame-wide F) h,
-        length-replicate {A = ℕ} 1664 0,
       )
 
   length-under : (n : ℕ) → n ≡ length F → length (under H R X F) ≡ 4480 + n * 20
@@ -170,7 +168,7 @@ module _ (H R : List ℕ) (X : List Activation) (F : List Frame) (head : length 
         → puts (rooms H X (K ++ F) ++ R) (4480 + n * 20) 0 (replicate (length K * 20) 0) ≡ rooms H X F ++ R
     frames-pop K room =
         rw (frames-open H R X (K ++ F), frames-open H R X F)
-        (pops-law 20 frameWords (H ++ region 136 activationWords 32 X) (replicate 1664 0 ++ R) 512 (4480 + n * 20) K F
+        (pops-law 20 frameWords (H ++ region 136 activationWords 32 X) R 512 (4480 + n * 20) K F
         (every (Wide 20 frameWords) frame-wide K) (every (Wide 20 frameWords) frame-wide F) (rw (length-front, count)) (omega arith))
 
     module _ (fr : Frame) where
@@ -205,19 +203,19 @@ module _ (H R : List ℕ) (X : List Activation) (F : List Frame) where
   low = H ++ words activationWords X
 
   abbrev high : List ℕ
-  high = replicate ((32 - suc (length X)) * 136) 0 ++ (region 20 frameWords 512 F ++ (replicate 1664 0 ++ R))
+  high = replicate ((32 - suc (length X)) * 136) 0 ++ (region 20 frameWords 512 F ++ R)
 
   -- the head, the activations, the frames, and what is left
-  pub activations-open : rooms H X F ++ R ≡ H ++ (region 136 activationWords 32 X ++ (region 20 frameWords 512 F ++ (replicate 1664 0 ++ R)))
+  pub activations-open : rooms H X F ++ R ≡ H ++ (region 136 activationWords 32 X ++ (region 20 frameWords 512 F ++ R))
   unfolding rooms
   activations-open = simp append-assoc
 
 module _ (H R : List ℕ) (X : List Activation) (F : List Frame) where
   activation-free : length X < 32 → rooms H X F ++ R ≡ low H R X F ++ (replicate 136 0 ++ high H R X F)
-  activation-free h = activations-open H R X F ∙ place-free 136 activationWords H (region 20 frameWords 512 F ++ (replicate 1664 0 ++ R)) 32 X h
+  activation-free h = activations-open H R X F ∙ place-free 136 activationWords H (region 20 frameWords 512 F ++ R) 32 X h
 
   activation-held : (x : Activation) → rooms H (x ∷ X) F ++ R ≡ low H R X F ++ (activationWords x ++ high H R X F)
-  activation-held x = activations-open H R (x ∷ X) F ∙ place-held 136 activationWords H (region 20 frameWords 512 F ++ (replicate 1664 0 ++ R)) 32 X x
+  activation-held x = activations-open H R (x ∷ X) F ∙ place-held 136 activationWords H (region 20 frameWords 512 F ++ R) 32 X x
 
 module _ (H R : List ℕ) (X : List Activation) (F : List Frame) (head : length H ≡ 128) (a : ℕ) (count : a ≡ length X) where
   length-low : length (low H R X F) ≡ 128 + a * 136
@@ -264,5 +262,5 @@ module _ (H R : List ℕ) (X : List Activation) (F : List Frame) (head : length 
     pub caller-word : (y : Activation) (j : ℕ) → j < 136 → getD (rooms H (y ∷ x ∷ X) F ++ R) (128 + a * 136 + j) 0 ≡ getD (activationWords x) j 0
     caller-word y j h =
         rw (activations-open H R (y ∷ x ∷ X) F)
-        (word-law 136 activationWords H (region 20 frameWords 512 F ++ (replicate 1664 0 ++ R)) 32 (128 + a * 136) (y ∷ x ∷ X) 1 x
+        (word-law 136 activationWords H (region 20 frameWords 512 F ++ R) 32 (128 + a * 136) (y ∷ x ∷ X) 1 x
         (every (Wide 136 activationWords) activation-wide (y ∷ x ∷ X)) (omega arith) (rw (head, count)) (128 + a * 136 + j) j refl h)

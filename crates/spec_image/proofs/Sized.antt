@@ -13,9 +13,10 @@ use Rattle.records.specs.Fields.{paramsOf, varsOf, countOf}
 use Rattle.records.specs.Parts.{partOf}
 use Rattle.spec_machine.specs.Values.{Ty, Value, typeV}
 use Rattle.spec_machine.specs.Program.{Operation, op, fn, Program, typeN, varTypes, wants, gives}
-use Rattle.spec_machine.specs.Machine.{Frame, gather, and, wait, branch, check, Control, val, eval, exec, Saved, saved, State, exception, main, returned, running}
+use Rattle.spec_machine.specs.Machine.{Frame, gather, and, wait, branch, check, Control, val, eval, exec, Saved, saved, State, exception, calling, returned, running}
 use Rattle.spec_machine.specs.Fit.{HasFunction, KnownOperation, AllHoldTyped, TakesNone, Takes, ControlOver, Callers, Proper, Fit}
 use Rattle.spec_machine.specs.File.{funOf, programOf}
+use Rattle.spec_machine.proofs.Given.{of-given}
 use Rattle.spec_machine.proofs.Holding.{holds-length}
 use Rattle.spec_machine.proofs.Operands.{types-length}
 use Rattle.spec_machine.proofs.Nodes.{variables}
@@ -55,7 +56,7 @@ module _ (P : Program) (z : Sized P) where
 
   takes-narrow : (f : ℕ) (t : Ty) (K : List Frame) → Takes P f t K → Every NarrowFrame K
   takes-narrow f t [] h = absurd h
-  takes-narrow f t (gather g vs ns ∷ K) h = (operands-few f t g vs ns (h .3) (h .0), takes-narrow f (gives P g) K (h .2))
+  takes-narrow f t (gather g vs ns ∷ K) h = (operands-few f t g vs ns (h .3) (h .0), of-given (gives P g) (λ u. takes-narrow f u K) (none-narrow f K) (h .2))
   takes-narrow f t (and n ∷ K) h = (tt, takes-narrow f _ K (h .3))
   takes-narrow f t (wait r ∷ K) h = absurd h
   takes-narrow f t (Frame.store x ∷ K) h = (tt, none-narrow f K (h .2))
@@ -72,21 +73,21 @@ module _ (P : Program) (z : Sized P) where
   pub held-few : (f : ℕ) (η : List Value) → HasFunction P f → AllHoldTyped η (varTypes (P .fun f)) → length η ≤ 64
   held-few f η k h = rw (holds-length η (varTypes (P .fun f)) h) (z .vars f k)
 
-  callers-narrow : (f : ℕ) (A : List Saved) → Callers P f A → Every NarrowFrame (savedFrames A) × Every NarrowActivation (savedActivations A)
+  callers-narrow : (e f : ℕ) (A : List Saved) → Callers P e f A → Every NarrowFrame (savedFrames A) × Every NarrowActivation (savedActivations A)
   unfolding savedFrames savedActivations
-  callers-narrow f [] h = (tt, tt)
-  callers-narrow f (saved g θ L ∷ A) h =
-      let r = callers-narrow g A (h .4) in
+  callers-narrow e f [] h = (tt, tt)
+  callers-narrow e f (saved g θ L ∷ A) h =
+      let r = callers-narrow e g A (h .4) in
       (every-append NarrowFrame L (savedFrames A) (takes-narrow g (P .fun f .result) L (h .1)) (r .0), (held-few g θ (h .5) (h .0), r .1))
 
   proper-narrow : (s : State) → Proper P s → Narrow s
   unfolding framesOf activationsOf
   proper-narrow (State.value c) h = record { frames = tt; activations = tt }
   proper-narrow (exception x) h = record { frames = tt; activations = tt }
-  proper-narrow (main α) h = record { frames = tt; activations = tt }
+  proper-narrow (calling α o) h = record { frames = tt; activations = tt }
   proper-narrow (returned α c) h = record { frames = tt; activations = tt }
   proper-narrow (running c α f η K A) h =
-      let r = callers-narrow f A (h .callers) in
+      let r = callers-narrow (α .entry) f A (h .callers) in
       record {
         frames = every-append NarrowFrame K (savedFrames A) (gives-narrow f c K (h .frames)) (r .0);
         activations = (held-few f η (h .known) (h .holds), r .1);

@@ -15,27 +15,27 @@ use Rattle.spec_language.specs.Scopes.{declaresAt, declOf}
 use Rattle.spec_language.specs.Types.{paramType, varType}
 use Rattle.spec_machine.specs.File.{looks, lookAt, formOf, formAt, ifForm, seqForm, seeAt, unrolled, looped, stmtAt, typesFrom, funOf, programOf}
 use Rattle.spec_machine.specs.Program.{Program}
-use Rattle.spec_machine.specs.Machine.{State, emptyEnv, main, exception, arith}
+use Rattle.spec_machine.specs.Machine.{State, mainCall, exception, arith}
 use Rattle.spec_machine.proofs.SampleFiles.{sample}
-use Rattle.spec_image.specs.Layout.{filled, bit, valueWords, valuesWords, nodesWords, refWord, block, gathering, frameWords, controlWords, activationWords}
-use Rattle.spec_image.specs.Image.{savedActivations, savedFrames, headWords, activationsOf, framesOf, image}
-use Rattle.spec_image.specs.Decode.{valueOf, valuesOf, nodesOf, refOf, operands, frames, frameOf, controlOf, activationOf, framesHeld, callersOf, runningOf, activationsIn, framesIn, states, stateOf}
+use Rattle.spec_image.specs.Layout.{filled, bit, valueWords, valuesWords, nodesWords, refWord, block, gathering, frameWords, controlWords, activationWords, envWords}
+use Rattle.spec_image.specs.Image.{savedActivations, savedFrames, headWords, activationsOf, framesOf, envPart, image}
+use Rattle.spec_image.specs.Decode.{valueOf, valuesOf, nodesOf, refOf, operands, frames, frameOf, controlOf, activationOf, framesHeld, callersOf, runningOf, activationsIn, framesIn, envOf, states, stateOf}
 use Rattle.spec_image.specs.Memory.{fitWords}
 use Rattle.spec_image.proofs.Samples.{looping, first, inside}
 
 -- images of states on the run pass, whatever follows them
-pass : map (λ s. fitWords (programOf sample) (image s ++ (7 ∷ 8 ∷ []))) (main emptyEnv ∷ looping ∷ first ∷ inside ∷ State.value 3 ∷ exception arith ∷ []) ≡ replicate 6 true
-unfolding filled bit valueWords valuesWords nodesWords refWord block gathering frameWords controlWords activationWords savedActivations savedFrames headWords activationsOf framesOf image valueOf valuesOf nodesOf refOf operands frames frameOf controlOf activationOf framesHeld callersOf runningOf activationsIn framesIn states stateOf none with without both either less u16At u32At functions resultOf paramsOf varsOf maskOf countOf kindAt aAt bAt sizeAt sumOf startOf partOf orElse prior last shapes shapeAt readsFrom readsOf grow statementIn statementAt declares leaves missing lacks returns declaresAt declOf paramType varType looks lookAt formOf formAt ifForm seqForm seeAt unrolled looped stmtAt typesFrom funOf programOf fitWords
+pass : map (λ s. fitWords (programOf sample) (image s ++ (7 ∷ 8 ∷ []))) (mainCall ∷ looping ∷ first ∷ inside ∷ State.value 3 ∷ exception arith ∷ []) ≡ replicate 6 true
+unfolding filled bit valueWords valuesWords nodesWords refWord block gathering frameWords controlWords activationWords envWords savedActivations savedFrames headWords activationsOf framesOf envPart image valueOf valuesOf nodesOf refOf operands frames frameOf controlOf activationOf framesHeld callersOf runningOf activationsIn framesIn envOf states stateOf none with without both either less u16At u32At functions resultOf paramsOf varsOf maskOf countOf kindAt aAt bAt sizeAt sumOf startOf partOf orElse prior last shapes shapeAt readsFrom readsOf grow statementIn statementAt declares leaves missing lacks returns declaresAt declOf paramType varType looks lookAt formOf formAt ifForm seqForm seeAt unrolled looped stmtAt typesFrom funOf programOf fitWords
 pass = refl
 
 -- zeros pass for no program
 blank-fails : (P : Program) → fitWords P (replicate 16384 0) ≡ false
-unfolding filled bit valueWords valuesWords nodesWords refWord block gathering frameWords controlWords activationWords savedActivations savedFrames headWords activationsOf framesOf image valueOf valuesOf nodesOf refOf operands frames frameOf controlOf activationOf framesHeld callersOf runningOf activationsIn framesIn states stateOf fitWords
+unfolding filled bit valueWords valuesWords nodesWords refWord block gathering frameWords controlWords activationWords envWords savedActivations savedFrames headWords activationsOf framesOf envPart image valueOf valuesOf nodesOf refOf operands frames frameOf controlOf activationOf framesHeld callersOf runningOf activationsIn framesIn envOf states stateOf fitWords
 blank-fails P = refl
 
 -- a memory that is one word short
-short-fails : fitWords (programOf sample) (take 16383 (image (main emptyEnv))) ≡ false
-unfolding filled bit valueWords valuesWords nodesWords refWord block gathering frameWords controlWords activationWords savedActivations savedFrames headWords activationsOf framesOf image valueOf valuesOf nodesOf refOf operands frames frameOf controlOf activationOf framesHeld callersOf runningOf activationsIn framesIn states stateOf fitWords
+short-fails : fitWords (programOf sample) (take 16383 (image mainCall)) ≡ false
+unfolding filled bit valueWords valuesWords nodesWords refWord block gathering frameWords controlWords activationWords envWords savedActivations savedFrames headWords activationsOf framesOf envPart image valueOf valuesOf nodesOf refOf operands frames frameOf controlOf activationOf framesHeld callersOf runningOf activationsIn framesIn envOf states stateOf fitWords
 short-fails = refl
 
 -- an image with one word changed
@@ -48,7 +48,9 @@ changed (change s at word) = set (image s) at word
 abbrev changes : List Change
 changes =
     -- a tag that no state has, an int where there is none, a word after the control, the last word
-    change (main emptyEnv) 0 7 ∷ change (exception arith) 1 1 ∷ change inside 1 1 ∷ change inside 5 1 ∷ change inside 16383 1 ∷
+    change mainCall 0 7 ∷ change (exception arith) 1 1 ∷ change inside 1 1 ∷ change inside 5 1 ∷ change inside 16383 1 ∷
+    -- an entry function that is not main, main() with an argument, a word before the entry function, an entry function in a final state
+    change mainCall 14721 5 ∷ change inside 14721 1 ∷ change mainCall 0 9 ∷ change inside 14720 1 ∷ change (State.value 3) 14721 1 ∷
     -- no activation, one too many, a form that no control has, a bool of 2
     change inside 2 0 ∷ change inside 2 3 ∷ change inside 3 6 ∷ change looping 139 2 ∷
     -- a spare word of an activation, the word of a variable that holds nothing, a word after the last variable
@@ -61,6 +63,6 @@ changes =
     change first 4523 2 ∷ change first 4525 1 ∷ change looping 4481 31 ∷
     []
 
-fail : map (λ c. fitWords (programOf sample) (changed c)) changes ≡ replicate 22 false
-unfolding filled bit valueWords valuesWords nodesWords refWord block gathering frameWords controlWords activationWords savedActivations savedFrames headWords activationsOf framesOf image valueOf valuesOf nodesOf refOf operands frames frameOf controlOf activationOf framesHeld callersOf runningOf activationsIn framesIn states stateOf none with without both either less u16At u32At functions resultOf paramsOf varsOf maskOf countOf kindAt aAt bAt sizeAt sumOf startOf partOf orElse prior last shapes shapeAt readsFrom readsOf grow statementIn statementAt declares leaves missing lacks returns declaresAt declOf paramType varType looks lookAt formOf formAt ifForm seqForm seeAt unrolled looped stmtAt typesFrom funOf programOf fitWords
+fail : map (λ c. fitWords (programOf sample) (changed c)) changes ≡ replicate 27 false
+unfolding filled bit valueWords valuesWords nodesWords refWord block gathering frameWords controlWords activationWords envWords savedActivations savedFrames headWords activationsOf framesOf envPart image valueOf valuesOf nodesOf refOf operands frames frameOf controlOf activationOf framesHeld callersOf runningOf activationsIn framesIn envOf states stateOf none with without both either less u16At u32At functions resultOf paramsOf varsOf maskOf countOf kindAt aAt bAt sizeAt sumOf startOf partOf orElse prior last shapes shapeAt readsFrom readsOf grow statementIn statementAt declares leaves missing lacks returns declaresAt declOf paramType varType looks lookAt formOf formAt ifForm seqForm seeAt unrolled looped stmtAt typesFrom funOf programOf fitWords
 fail = refl

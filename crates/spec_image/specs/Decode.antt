@@ -1,14 +1,15 @@
 -- The state that words stand for, whatever they are.
 use mathlib.Core.List.{List, [], _∷_}
+use mathlib.Core.Option.{none, some}
 use Prim.Native.Nat.{ℕ, zero, suc, _*_, _/_, _%_}
 use lib.Dec.{eqb}
 use lib.ListN.{getD, take, drop}
 use Rattle.varset.specs.Lowest.{pick}
 use Rattle.spec_machine.specs.Values.{Value, nothing, int, truth}
 use Rattle.spec_machine.specs.Program.{Operation, op, fn, Ref, node, ifOf, seqOf}
-use Rattle.spec_machine.specs.Machine.{arith, abort, Frame, gather, and, wait, branch, check, Control, val, eval, exec, Saved, saved, emptyEnv, State, exception, main, returned, running}
+use Rattle.spec_machine.specs.Machine.{arith, abort, Frame, gather, and, wait, branch, check, Control, val, eval, exec, Saved, saved, RunEnv, State, exception, calling, mainCall, returned, running}
 use Rattle.words.specs.Stacks.{entries, total}
-use Rattle.spec_image.specs.Sizes.{activationSize, frameSize, activationsAt, framesAt, slotsFrom, variablesFrom}
+use Rattle.spec_image.specs.Sizes.{activationSize, frameSize, activationsAt, framesAt, entryAt, slotsFrom, variablesFrom}
 use Rattle.spec_image.specs.Layout.{Activation, activation}
 
 -- a value by its type and its word
@@ -65,10 +66,10 @@ unfoldable pub callersOf : List Activation → List Frame → List Saved
 callersOf [] K = []
 callersOf (activation f k η ∷ rest) K = saved f η (take k K) ∷ callersOf rest (drop k K)
 
--- the running state of a control, its activations and their frames
-unfoldable pub runningOf : Control → List Activation → List Frame → State
-runningOf c [] K = main emptyEnv
-runningOf c (activation f k η ∷ rest) K = running c emptyEnv f η (take k K) (callersOf rest (drop k K))
+-- the running state of a control, its environment, its activations and their frames
+unfoldable pub runningOf : Control → RunEnv → List Activation → List Frame → State
+runningOf c α [] K = mainCall
+runningOf c α (activation f k η ∷ rest) K = running c α f η (take k K) (callersOf rest (drop k K))
 
 -- the first n activations of an image, the last first, and how many frames they have together
 abbrev pub activationsTo : List ℕ → ℕ → List Activation
@@ -84,13 +85,18 @@ activationsIn m = activationsTo m (getD m 2 0)
 unfoldable pub framesIn : List ℕ → List Frame
 framesIn m = entries frameSize frameOf m framesAt (total framesHeld (activationsIn m))
 
--- the states of tags 1 to 6
+-- the environment of an image
+unfoldable pub envOf : List ℕ → RunEnv
+envOf m = record { entry = getD m entryAt 0 }
+
+-- the states of tags 1 to 6 and 9
 unfoldable pub states : List ℕ → List State
 states m =
-    main emptyEnv ∷ main emptyEnv
-    ∷ runningOf (controlOf (getD m 3 0) (getD m 4 0)) (activationsIn m) (framesIn m)
-    ∷ returned emptyEnv (getD m 1 0) ∷ State.value (getD m 1 0) ∷ exception arith ∷ exception abort ∷ []
+    mainCall ∷ calling (envOf m) none
+    ∷ runningOf (controlOf (getD m 3 0) (getD m 4 0)) (envOf m) (activationsIn m) (framesIn m)
+    ∷ returned (envOf m) (getD m 1 0) ∷ State.value (getD m 1 0) ∷ exception arith ∷ exception abort
+    ∷ mainCall ∷ mainCall ∷ calling (envOf m) (some (getD m 1 0)) ∷ []
 
 -- the state that the words m stand for
 unfoldable pub stateOf : List ℕ → State
-stateOf m = getD (states m) (getD m 0 0) (main emptyEnv)
+stateOf m = getD (states m) (getD m 0 0) mainCall

@@ -5,8 +5,8 @@ use Prim.Native.Nat.{ℕ, _+_, _*_}
 use lib.ListN.{take, replicate, length}
 use Rattle.spec_machine.specs.Values.{Value, nothing, int, truth}
 use Rattle.spec_machine.specs.Program.{Operation, op, fn, Ref, node, ifOf, seqOf}
-use Rattle.spec_machine.specs.Machine.{Frame, gather, and, wait, branch, check, Control, val, eval, exec}
-use Rattle.spec_image.specs.Sizes.{activationSize, frameSize}
+use Rattle.spec_machine.specs.Machine.{Frame, gather, and, wait, branch, check, Control, val, eval, exec, RunEnv}
+use Rattle.spec_image.specs.Sizes.{activationSize, frameSize, envSize}
 
 -- a list of words brought to w words, with zeros after it
 unfoldable pub filled : ℕ → List ℕ → List ℕ
@@ -64,6 +64,10 @@ controlWords (val (int n)) = 2 ∷ n ∷ []
 controlWords (val (truth b)) = 3 ∷ bit b ∷ []
 controlWords (eval n) = 4 ∷ n ∷ []
 controlWords (exec r) = 5 ∷ refWord r ∷ []
+
+-- the environment of a run: a zero, the entry function, and zeros
+unfoldable pub envWords : RunEnv → List ℕ
+envWords α = filled envSize (0 ∷ α .entry ∷ [])
 
 -- an activation: its function, how many frames it has, and its variables
 pub data Activation : Type 0 where

@@ -17,19 +17,22 @@ frameSize = 20
 abbrev pub frameRoom : ℕ
 frameRoom = 512
 
--- the words after them, which are zero
-abbrev pub spareSize : ℕ
-spareSize = 1664
+-- the words after them, for the environment of the run
+abbrev pub envSize : ℕ
+envSize = 1664
 
--- where the activations begin, where the frames and the spare words do, and the size of the whole
+-- where the activations begin, where the frames and the environment do, where the entry function stands in it, and the size of the whole
 abbrev pub activationsAt : ℕ
 activationsAt = 128
 
 abbrev pub framesAt : ℕ
 framesAt = 4480
 
-abbrev pub spareAt : ℕ
-spareAt = 14720
+abbrev pub envAt : ℕ
+envAt = 14720
+
+abbrev pub entryAt : ℕ
+entryAt = 14721
 
 abbrev pub size : ℕ
 size = 16384

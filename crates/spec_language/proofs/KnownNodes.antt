@@ -2,20 +2,19 @@
 use mathlib.Core.Path.{_≡_}
 use mathlib.Core.Bool.{true}
 use mathlib.Core.List.{List}
-use Prim.Native.Nat.{ℕ, _*_, _≤_, _<_, min}
+use Prim.Native.Nat.{ℕ, _*_, _≤_, _<_}
 use native.Mathlib.Omega.{arith}
 use lib.ListN.{length}
 use Rattle.records.specs.Fields.{kindAt, aAt, bAt}
-use Rattle.records.specs.Children.{arities, arityOf, arityAt}
-use Rattle.records.proofs.Ranges.{range-is}
+use Rattle.records.specs.Children.{arityAt}
+use Rattle.spec_language.specs.KindLists.{isStatement}
+use Rattle.spec_language.proofs.KindLists.{has-child}
 use Rattle.spec_language.specs.Known.{Known, namesVariable}
 
--- a node of kind 7 to 14 has a child, so it is not the first
-pub inner : {t : List ℕ} {n i : ℕ} (kind : ℕ) → Known t n → i < n → kindAt t i ≡ kind → 7 ≤ kind → kind < 15 → 0 < i
-unfolding arityAt arityOf arities
-inner {t} {n} {i} kind h l e p q =
-    let m : 1 ≡ min (arityOf kind (aAt t i)) 1 = range-is (λ k. min (arityOf k (aAt t i)) 1) 1 7 8 tt kind p q in
-    h .child i l (rw e (omega arith))
+-- a statement other than nop has a child, so it is not the first node
+pub inner : {t : List ℕ} {n i : ℕ} (kind : ℕ) → Known t n → i < n → kindAt t i ≡ kind → isStatement kind ≡ true → 0 < i
+unfolding arityAt
+inner {t} {n} {i} kind h l e p = h .child i l (rw e (has-child (aAt t i) kind p))
 
 -- the variable that a node names
 pub named : {t : List ℕ} {n i : ℕ} (kind : ℕ) → Known t n → i < n → kindAt t i ≡ kind → namesVariable kind ≡ true → bAt t i < 64

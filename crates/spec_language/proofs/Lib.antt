@@ -14,5 +14,6 @@ pub mod Returns
 pub mod LowestRead
 pub mod Refusals
 pub mod Verdicts
+pub mod KindLists
 pub mod KnownNodes
 pub mod Editions

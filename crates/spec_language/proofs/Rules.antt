@@ -1,7 +1,7 @@
 -- Questions 13 and 14 at a node of each kind, in the paper's words.
 use mathlib.Core.Path.{_≡_, refl, ap}
-use mathlib.Core.Bool.{true, false, _||_, _&&_}
-use mathlib.Core.List.{List}
+use mathlib.Core.Bool.{Bool, true, false, _||_, _&&_}
+use mathlib.Core.List.{List, [], _∷_}
 use mathlib.Core.Logic.{_⊎_, inl, inr}
 use Prim.Native.Nat.{ℕ, _≤_, _<_}
 use Rattle.varset.specs.Sets.{Set, none, with, without, both, either, less, below}
@@ -9,9 +9,12 @@ use Rattle.records.specs.Format.{mostVariables}
 use Rattle.records.specs.Fields.{kindAt, bAt}
 use Rattle.records.specs.Search.{orElse}
 use Rattle.records.specs.declared.Found.the-variants.{Nothing}
+use Rattle.records.proofs.Bools.{clash}
+use Rattle.spec_language.specs.Sorts.{oneOf}
+use Rattle.spec_language.specs.KindLists.{isStatement}
 use Rattle.spec_language.specs.Statements.{Statement, prior, last, readsOf, statementAt}
 use Rattle.spec_language.specs.Flow.{declares, leaves, missing, lacks, returns}
-use Rattle.spec_language.proofs.Trees.{not-both, one-of-three, by-kind, statement-seq, statement-assign, statement-decl, statement-if, statement-while, statement-return, statement-assert, statement-expr, statement-rest}
+use Rattle.spec_language.proofs.Trees.{one-of-three, by-kind, statement-seq, statement-assign, statement-decl, statement-if, statement-while, statement-return, statement-assert, statement-expr, statement-rest}
 
 -- the statement at node i, begun with the variables d
 module _ (t : List ℕ) (i : ℕ) (d : Set) where
@@ -46,11 +49,12 @@ module _ (t : List ℕ) (i : ℕ) (d : Set) where
   leaves-return e p = ap (λ (s : Statement). leaves s d) (statement-return t i e p)
 
   -- "the rest leave what they found"
-  pub leaves-rest : (kindAt t i < 7) ⊎ (13 ≤ kindAt t i) → leaves (statementAt t i) d ≡ d
+  pub leaves-rest : oneOf (7 ∷ 8 ∷ 9 ∷ 10 ∷ 11 ∷ 12 ∷ []) (kindAt t i) ≡ false → leaves (statementAt t i) d ≡ d
   unfolding leaves
-  leaves-rest =
-      by-kind t i (λ k s. (k < 7) ⊎ (13 ≤ k) → leaves s d ≡ d) (λ k h. refl)
-      (not-both 7 tt) (not-both 8 tt) (not-both 9 tt) (not-both 10 tt) (not-both 11 tt) (not-both 12 tt) (λ h. refl) (λ h. refl)
+  leaves-rest = by-kind t i (λ k s. oneOf (7 ∷ 8 ∷ 9 ∷ 10 ∷ 11 ∷ 12 ∷ []) k ≡ false → leaves s d ≡ d) (λ k h. refl) no no no no no no (λ h. refl) (λ h. refl)
+    where
+      no : {A : Type 0} → _≡_ {A = Bool} true false → A
+      no e = clash true refl e
 
   -- "seq flows left to right": the right is judged from what the left leaves
   pub lacks-seq : kindAt t i ≡ 7 → 0 < i
@@ -90,7 +94,7 @@ module _ (t : List ℕ) (i : ℕ) (d : Set) where
       go (inr (inr e)) = ap (λ (s : Statement). lacks s d) (statement-expr t i e p)
 
   -- the rest read nothing
-  pub lacks-rest : (kindAt t i < 7) ⊎ (15 ≤ kindAt t i) → lacks (statementAt t i) d ≡ Nothing
+  pub lacks-rest : isStatement (kindAt t i) ≡ false → lacks (statementAt t i) d ≡ Nothing
   unfolding lacks
   lacks-rest h = ap (λ (s : Statement). lacks s d) (statement-rest t i h)
 

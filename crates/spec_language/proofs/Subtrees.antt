@@ -1,26 +1,26 @@
 -- The children of a node, and the reads of an expression's subtree.
 use mathlib.Core.Path.{_≡_, refl, _∙_}
-use mathlib.Core.Logic.{_↔_, _⊎_, inl, inr, ⊎-elim}
+use mathlib.Core.Logic.{_↔_, ⊎-elim}
 use mathlib.Core.Bool.{Bool, true, false}
 use mathlib.Core.List.{List, [], _∷_, List·Memᴰ·head, List·Memᴰ·tail, List·Memᴰ·not-nil, List·Memᴰ·cases-cons}
 use Prim.Native.Nat.{ℕ, zero, suc, _+_, _-_, _≤_, _<_}
 use native.Mathlib.Omega.{arith}
 use native.Mathlib.Decide.{decLt, ℕ-discrete}
-use lib.Dec.{eqb, ltb}
+use lib.Dec.{eqb}
 use lib.ListN.{length}
-use borrow.Author.Tests.{eqb-true, eqb-false, eq-eqb, ne-eqb, ltb-true}
+use borrow.Author.Tests.{eqb-true, eqb-false, eq-eqb, ne-eqb}
 use Rattle.varset.specs.Lowest.{pick}
 use Rattle.varset.specs.Sets.{Set}
 use Rattle.records.proofs.Children.{length-walk}
 use Rattle.records.specs.Fields.{functions, countOf, kindAt, aAt, bAt, sizeAt}
 use Rattle.records.specs.Parts.{partOf}
 use Rattle.records.specs.Children.{arities, arityOf, arityAt, walk, children}
-use Rattle.records.proofs.Bools.{or-cases}
 use Rattle.spec_language.specs.Sorts.{isExpression, wantsExpression}
 use Rattle.spec_language.specs.Statements.{prior, last, read, readsFrom, readsOf}
 use Rattle.spec_language.specs.Nodes.{total, misplaced}
 use Rattle.spec_language.proofs.Accept.{Accepted}
 use Rattle.spec_language.proofs.Tiles.{Tiles, none, more, Sizes, size-fits, tiled, Each, descend, nested}
+use Rattle.spec_language.proofs.KindLists.{expression-wants}
 use Rattle.spec_language.proofs.Typings.{nth}
 use Rattle.spec_language.proofs.Positions.{each-nth, sizes, child-placed}
 use Rattle.spec_language.proofs.Flows.{Reads, Listed, reads-listed, listed-reads}
@@ -200,15 +200,6 @@ module _ (t : List ℕ) (n : ℕ) (ok : Sizes t n) where
 
 -- ---- the sort of an expression's subtree
 
-expression-wants : (kind k : ℕ) → isExpression kind ≡ true → wantsExpression kind k ≡ true
-unfolding isExpression wantsExpression
-expression-wants kind k e =
-    let l : (kind < 6) ⊎ (kind ≡ 15) = or-cases (ltb kind 6) (eqb kind 15) e (λ q. inl (ltb-true kind 6 q)) (λ q. inr (eqb-true kind 15 q)) in
-    rw (no 7 l (omega arith) (omega arith), no 9 l (omega arith) (omega arith), no 10 l (omega arith) (omega arith), no 11 l (omega arith) (omega arith))
-  where
-    no : (j : ℕ) → (kind < 6) ⊎ (kind ≡ 15) → 6 ≤ j → j < 15 → eqb kind j ≡ false
-    no j l p q = ne-eqb kind j (λ z. ⊎-elim (λ (y : kind < 6). omega arith) (λ (y : kind ≡ 15). omega arith) l)
-
 nth-each : (Q : ℕ → Type 0) (cs : List ℕ) → ((k : ℕ) → k < length cs → Q (nth k cs)) → Each Q cs
 nth-each Q [] h = tt
 nth-each Q (c ∷ cs) h = (
@@ -221,7 +212,7 @@ module _ (t : List ℕ) (n : ℕ) (ok : Sizes t n) (h : (i : ℕ) → i < n → 
   pub tree-placed : (e j : ℕ) → e < n → isExpression (kindAt t e) ≡ true → j ≤ e → e < j + sizeAt t e → isExpression (kindAt t j) ≡ true
   tree-placed e j p =
       descend t n ok (λ c. isExpression (kindAt t c) ≡ true)
-      (λ i p q. nth-each (λ c. isExpression (kindAt t c) ≡ true) (children t i) (λ k m. child-placed t n ok h i k p (arity-of i k m) ∙ expression-wants (kindAt t i) k q)) e j p
+      (λ i p q. nth-each (λ c. isExpression (kindAt t c) ≡ true) (children t i) (λ k m. child-placed t n ok h i k p (arity-of i k m) ∙ expression-wants k (kindAt t i) q)) e j p
     where
       arity-of : (i k : ℕ) → k < length (children t i) → k < arityAt t i
       arity-of i k m = unfold children in (rw (length-walk (sizeAt t) (arityAt t i) (i - 1)) at m)

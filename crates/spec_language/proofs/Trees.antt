@@ -1,12 +1,11 @@
 -- The statement at a node, level by level: each kind's, from the statements and reads at its children. No shape is asked for.
 use mathlib.Core.Path.{_≡_, refl}
-use mathlib.Core.Bool.{Bool, true, false, _&&_}
+use mathlib.Core.Bool.{Bool, true, false}
 use mathlib.Core.List.{List, _∷_}
 use Prim.Native.Nat.{ℕ, zero, suc, _+_, _-_, _≤_, _<_}
 use native.Mathlib.Nat.{not-suc-le-zero, le-of-suc-le-suc, le-trans, le-refl, sub-le}
 use native.Mathlib.Omega.{arith}
-use lib.Dec.{eqb, leb, ltb, T}
-use borrow.Author.Tests.{lt-leb, le-ltb}
+use lib.Dec.{eqb}
 use mathlib.Core.Logic.{_⊎_, inl, inr}
 use lib.ListN.{getD}
 use Rattle.varset.specs.Lowest.{pick}
@@ -15,7 +14,9 @@ use Rattle.records.specs.Fields.{kindAt, bAt, sizeAt}
 use Rattle.records.specs.Search.{orElse}
 use Rattle.records.specs.declared.Found.{Found}
 use Rattle.records.specs.declared.Found.the-variants.{At, Nothing}
+use Rattle.records.proofs.Bools.{clash}
 use Rattle.records.proofs.EntryTables.{each-at}
+use Rattle.spec_language.specs.KindLists.{isStatement}
 use Rattle.spec_language.specs.Statements.{Shape, nop, seq, assign, decl, if, while, return, assert, expr, stray, prior, last, shapes, shapeAt, read, readsFrom, readsOf, Statement, Nop, Seq, Assign, Decl, If, While, Return, Assert, Expr, grow, statementIn, statementAt}
 use Rattle.spec_language.specs.Flow.{leaves, missing, lacks}
 use Rattle.spec_language.specs.Known.{Known}
@@ -33,7 +34,7 @@ by-shape : (t : List ℕ) (i : ℕ) (P : ℕ → Shape → Type 0) → ((k : ℕ
     → P (kindAt t i) (shapeAt t i)
 unfolding shapeAt shapes
 by-shape t i P z n s a d f w r c e =
-    each-at P (shapes t i) stray (z 0, (z 1, (z 2, (z 3, (z 4, (z 5, (n, (s, (a, (d, (f, (w, (r, (c, (e, tt))))))))))))))) z (kindAt t i)
+    each-at P (shapes t i) stray (z 0, (z 1, (z 2, (z 3, (z 4, (z 5, (n, (s, (a, (d, (f, (w, (r, (c, (e, (z 15, tt)))))))))))))))) z (kindAt t i)
 
 -- children lie below their parent
 last-below : (i : ℕ) → last (suc i) ≤ i
@@ -69,15 +70,6 @@ levels t (suc f) (suc g) (suc i) p q =
 pub statement-law : (t : List ℕ) (i : ℕ) → statementAt t (suc i) ≡ grow (readsOf t) (statementAt t) (shapeAt t (suc i))
 unfolding statementAt statementIn
 statement-law t i = grow-same t i (statementIn t i) (statementAt t) (λ j l. levels t i j j l (le-refl j))
-
--- a number from a on and below b is not below a and not b or past it
-pub not-both : {A : Type 0} {a b : ℕ} (k : ℕ) → T (leb a k && ltb k b) → (k < a) ⊎ (b ≤ k) → A
-not-both {a = a} {b = b} k h (inl l) = absurd (rw (lt-leb a k l) at h)
-not-both {a = a} {b = b} k h (inr l) = absurd (and-false (leb a k) (rw (le-ltb k b l) at h))
-  where
-    and-false : (x : Bool) → T (x && false) → ⊥
-    and-false true h = h
-    and-false false h = h
 
 -- return, assert and kind 14
 pub one-of-three : (k : ℕ) → 12 ≤ k → k < 15 → (k ≡ 12) ⊎ ((k ≡ 13) ⊎ (k ≡ 14))
@@ -157,13 +149,14 @@ module _ (t : List ℕ) (i : ℕ) where
       at-zero (suc j) h = h (omega arith)
 
   -- nop, and the kinds that are no statements
-  pub statement-rest : (kindAt t i < 7) ⊎ (15 ≤ kindAt t i) → statementAt t i ≡ Nop
-  statement-rest =
-      by-kind (λ k s. (k < 7) ⊎ (15 ≤ k) → s ≡ Nop) (λ k h. refl)
-      (not-both 7 tt) (not-both 8 tt) (not-both 9 tt) (not-both 10 tt) (not-both 11 tt) (not-both 12 tt) (not-both 13 tt) (not-both 14 tt)
+  pub statement-rest : isStatement (kindAt t i) ≡ false → statementAt t i ≡ Nop
+  statement-rest = by-kind (λ k s. isStatement k ≡ false → s ≡ Nop) (λ k h. refl) no no no no no no no no
+    where
+      no : {A : Type 0} → _≡_ {A = Bool} true false → A
+      no e = clash true refl e
 
   pub statement-nop : kindAt t i ≡ 6 → statementAt t i ≡ Nop
-  statement-nop e = statement-rest (inl (omega arith))
+  statement-nop e = statement-rest (rw e)
 
 -- a search finds nothing past node i, and names no item
 abbrev Low : ℕ → Found → Type 0

@@ -5,7 +5,7 @@ use mathlib.Core.Bool.{Bool, true, false}
 use mathlib.Core.List.{List, [], _∷_}
 use Prim.Native.Nat.{ℕ, _-_, _/_, _%_, _^_, _≤_, _<_}
 use native.Mathlib.Omega.{arith}
-use native.Mathlib.Nat.{mod-lt, zero-lt-suc, not-suc-le-zero}
+use native.Mathlib.Nat.{mod-lt, zero-div, zero-lt-suc, not-suc-le-zero}
 use lib.Dec.{eqb, ltb}
 use lib.ListN.{length}
 use borrow.Author.Tests.{eqb-true, ne-eqb, not-false, le-ltb, ltb-false, eqb-false}
@@ -32,7 +32,7 @@ suits-is want type l e =
 
 pub param-small : (s : List ℕ) (f k : ℕ) → (1 ≤ paramType s f k) × (paramType s f k ≤ 2)
 unfolding paramType
-param-small s f k = let m : maskOf s f / 2 ^ k % 2 < 2 = mod-lt (maskOf s f / 2 ^ k) (zero-lt-suc 1) in (omega arith, omega arith)
+param-small s f k = let m : maskOf s f / 2 ^ k % 2 < 2 = mod-lt (maskOf s f / 2 ^ k) (zero-lt-suc 1) in rw (zero-div (2 ^ k)) (omega arith, omega arith)
 
 -- child k of a list of children, the last first
 unfoldable pub nth : ℕ → List ℕ → ℕ

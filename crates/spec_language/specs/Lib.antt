@@ -1,4 +1,5 @@
 pub mod Sorts
+pub mod KindLists
 pub mod Statements
 pub mod Flow
 pub mod Scopes

@@ -18,7 +18,7 @@ use Rattle.spec_language.specs.Scopes.{declCount, declOf, under, usesVar
 use Rattle.spec_language.specs.Types.{typeAt, wantAt, agree}
 use Rattle.records.specs.Format.{nodeMark}
 
--- the fields a and b of kinds 0 to 15; v, p and F are the function's and the file's, and a call's a is its callee's p; by kind
+-- the fields a and b of the kinds; v, p and F are the function's and the file's, and a call's a is its callee's p; by kind
 unfoldable pub fields : List ℕ → ℕ → ℕ → ℕ → List Bool
 fields s f a b =
     let none = eqb a 0 && eqb b 0 in

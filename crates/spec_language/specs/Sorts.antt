@@ -1,16 +1,25 @@
 -- Expressions and statements.
 use mathlib.Core.Bool.{Bool, true, false, not, _&&_, _||_}
+use mathlib.Core.List.{List, [], _∷_}
 use Prim.Native.Nat.{ℕ}
-use lib.Dec.{eqb, ltb}
+use lib.Dec.{eqb}
 
 -- one of two holds and the other does not
 unfoldable pub differ : Bool → Bool → Bool
 differ true b = not b
 differ false b = b
 
--- kinds 0 to 5 and 15 are expressions; by kind
+-- a kind is one of these
+abbrev pub oneOf : List ℕ → ℕ → Bool
+oneOf [] kind = false
+oneOf (k ∷ ks) kind = eqb kind k || oneOf ks kind
+
+-- the kinds that are expressions; by kind
+abbrev pub expressions : List ℕ
+expressions = 0 ∷ 1 ∷ 2 ∷ 3 ∷ 4 ∷ 5 ∷ 15 ∷ []
+
 unfoldable pub isExpression : ℕ → Bool
-isExpression kind = ltb kind 6 || eqb kind 15
+isExpression kind = oneOf expressions kind
 
 -- child k, counted from the left, of a node of that kind is to be an expression: not under seq and decl, and under if and while only the condition; by kind
 unfoldable pub wantsExpression : ℕ → ℕ → Bool

@@ -27,14 +27,14 @@ prior t c = c - sizeAt t c
 unfoldable pub last : ℕ → ℕ
 last i = i - 1
 
--- the shapes of kinds 0 to 14 at node i; by kind
+-- the shapes of the kinds at node i; an expression has none; by kind
 unfoldable pub shapes : List ℕ → ℕ → List Shape
 shapes t i =
     let c = last i in
     let b = prior t c in
     let a = prior t b in
     stray ∷ stray ∷ stray ∷ stray ∷ stray ∷ stray ∷ nop ∷ seq b c ∷ assign (bAt t i) c ∷ decl (bAt t i) c
-    ∷ if a b c ∷ while b c ∷ return c ∷ assert c ∷ expr c ∷ []
+    ∷ if a b c ∷ while b c ∷ return c ∷ assert c ∷ expr c ∷ stray ∷ []
 
 unfoldable pub shapeAt : List ℕ → ℕ → Shape
 shapeAt t i = getD (shapes t i) (kindAt t i) stray

@@ -1,5 +1,5 @@
 -- What the six forms of call owe: a refusal leaves the memory, an accepted call does to the machine what its form says.
-use mathlib.Core.Path.{_≡_, refl, _∙_}
+use mathlib.Core.Path.{_≡_, refl, sym, _∙_}
 use mathlib.Core.Bool.{true}
 use mathlib.Core.List.{List, [], _++_}
 use mathlib.Core.Option.{Option, none, some}
@@ -8,8 +8,8 @@ use native.Mathlib.Omega.{arith}
 use lib.ListN.{length, drop, length-append, length-drop}
 use Rattle.spec_language.specs.Check.{Verdict, accepted, refused, checkOf}
 use Rattle.spec_machine.specs.Values.{Value}
-use Rattle.spec_machine.specs.Machine.{State, main, emptyEnv}
-use Rattle.spec_machine.specs.Fit.{WithinLimits}
+use Rattle.spec_machine.specs.Machine.{State, mainCall}
+use Rattle.spec_machine.specs.Fit.{WithinLimits, Fit}
 use Rattle.spec_machine.specs.Run.{Ran, allHeld, runOf, lookUp}
 use Rattle.spec_machine.specs.File.{programOf}
 use Rattle.spec_machine.specs.Calls.{Machine}
@@ -76,7 +76,7 @@ not-granted (refused q p x) a n = n
 
 pub refusal : (k : CallKind) (i : Input k) (m : List ℕ) → ¬ Took k (answerOf k i m) → memoryAfter k i m ≡ m
 unfolding startMemory runMemory runAnswer logMemory logAnswer backMemory backAnswer
-refusal CallKind.start i m n = not-written (startAnswer (i .bytes) m) m (main emptyEnv) n
+refusal CallKind.start i m n = not-written (startAnswer (i .bytes) m) m mainCall n
 refusal CallKind.run i m n = not-written (memoryAnswer (i .file .bytes) m) m _ (not-granted (memoryAnswer (i .file .bytes) m) (runFrom (i .file .bytes) m (i .number)) n)
 refusal CallKind.memory i m n = refl
 refusal CallKind.look i m n = refl
@@ -92,10 +92,18 @@ there : (o : Option Value) → isPresent o ≡ true → o ≡ some (valueOr o)
 there none e = let z : _≡_ {A = ℕ} 0 1 = cc in absurd (omega arith)
 there (some v) e = refl
 
+-- the states that are fit for what a call is given to read: those fit for its file
+abbrev pub FitFor : Given → State → Type 0
+FitFor e s = Fit (programOf (e .bytes)) s
+
 module _ (M : List ℕ) where
   -- what holds between two calls of a list begun from M
-  abbrev pub Between : List ℕ → List ℕ → Machine → Type 0
-  Between φ m σ = At (List ℕ) Given (List ℕ) (λ e. e .bytes) programOf (Image M) φ m σ
+  abbrev pub Between : Given → List ℕ → Machine → Type 0
+  Between e m σ = At (List ℕ) Given (List ℕ) (λ d. d .bytes) (Image M) FitFor e m σ
+
+  -- what was given beside the file does not matter
+  same-file : (d e : Given) (m : List ℕ) (σ : Machine) → d .bytes ≡ e .bytes → Between d m σ → Between e m σ
+  same-file d e m σ q a = record { image = a .image; fit = rw (sym q) (a .fit); same = a .same }
 
   -- the image of another state, written over the first words
   pub rewritten : (m : List ℕ) (s t : State) → WithinLimits s → WithinLimits t → Image M s m → Image M t (image t ++ drop size m)
@@ -105,23 +113,23 @@ module _ (M : List ℕ) where
       record { holds = r .0; rest = r .1 ∙ h .rest; long = omega (arith, held-length m s v (h .holds), h .long) }
 
   -- the state in the memory is the machine's
-  pub state-there : (e : Given) (m : List ℕ) (σ : Machine) → checkOf (e .bytes) ≡ accepted → Between (e .bytes) m σ → stateOf m ≡ σ .state
+  pub state-there : (e : Given) (m : List ℕ) (σ : Machine) → checkOf (e .bytes) ≡ accepted → Between e m σ → stateOf m ≡ σ .state
   state-there e m σ c a = held-state m (σ .state) (a .fit .within) (fit-narrow (programOf (e .bytes)) (file-sized (e .bytes) c) (σ .state) (a .fit)) (a .image .holds)
 
   abbrev pub Owed : (k : CallKind) → Input k → List ℕ → Machine → Type 0
-  Owed k i m σ = (τ : Machine) × Does k i (answerOf k i m) σ τ × Between (givenOf k i .bytes) (memoryAfter k i m) τ
+  Owed k i m σ = (τ : Machine) × Does k i (answerOf k i m) σ τ × Between (givenOf k i) (memoryAfter k i m) τ
 
-  start-owes : (e : Given) (m : List ℕ) (σ : Machine) → Between (e .bytes) m σ → startAnswer (e .bytes) m ≡ accepted → Owed CallKind.start e m σ
+  start-owes : (e : Given) (m : List ℕ) (σ : Machine) → Between e m σ → startAnswer (e .bytes) m ≡ accepted → Owed CallKind.start e m σ
   unfolding startMemory written
   start-owes e m σ a t =
       let f = starts-fit (e .bytes) (e .small) (start-so (e .bytes) m t .0) in
-      let w : startMemory (e .bytes) m ≡ image (main emptyEnv) ++ drop size m = rw t in (
-        record { state = main emptyEnv; history = [] },
+      let w : startMemory (e .bytes) m ≡ image mainCall ++ drop size m = rw t in (
+        record { state = mainCall; history = [] },
         (refl, refl),
-        record { image = rw w (rewritten m (σ .state) (main emptyEnv) (a .fit .within) tt (a .image)); fit = f; same = refl },
+        record { image = rw w (rewritten m (σ .state) mainCall (a .fit .within) tt (a .image)); fit = f; same = refl },
       )
 
-  run-owes : (i : Asking) (m : List ℕ) (σ : Machine) → Between (i .file .bytes) m σ → memoryAnswer (i .file .bytes) m ≡ accepted → Owed CallKind.run i m σ
+  run-owes : (i : Asking) (m : List ℕ) (σ : Machine) → Between (i .file) m σ → memoryAnswer (i .file .bytes) m ≡ accepted → Owed CallKind.run i m σ
   unfolding runAnswer runMemory runFrom byVerdict written
   run-owes i m σ a t =
       let s = i .file .bytes in
@@ -137,7 +145,7 @@ module _ (M : List ℕ) where
         record { image = rw w (rewritten m (σ .state) (r .state) (a .fit .within) (g .fit .within) (a .image)); fit = g .fit; same = g .same },
       )
 
-  look-owes : (i : Asking) (m : List ℕ) (σ : Machine) → Between (i .file .bytes) m σ → lookVerdict (i .file .bytes) m (i .number) ≡ accepted → Owed CallKind.look i m σ
+  look-owes : (i : Asking) (m : List ℕ) (σ : Machine) → Between (i .file) m σ → lookVerdict (i .file .bytes) m (i .number) ≡ accepted → Owed CallKind.look i m σ
   unfolding lookAnswer byVerdict
   look-owes i m σ a t =
       let s = i .file .bytes in
@@ -147,7 +155,7 @@ module _ (M : List ℕ) where
       let b : lookAnswer s m (i .number) ≡ granted (valueOr (lookUp (σ .state) (i .number))) = rw (t, d) in
       (σ, (refl, record { value = valueOr (lookUp (σ .state) (i .number)); there = h; answer = b }), a)
 
-  logged-owes : (i : Logging) (m : List ℕ) (σ : Machine) → Between (i .file .bytes) m σ → memoryAnswer (i .file .bytes) m ≡ accepted → Owed CallKind.logged i m σ
+  logged-owes : (i : Logging) (m : List ℕ) (σ : Machine) → Between (i .file) m σ → memoryAnswer (i .file .bytes) m ≡ accepted → Owed CallKind.logged i m σ
   unfolding logAnswer logMemory logFrom byVerdict written
   logged-owes i m σ a t =
       let s = i .file .bytes in
@@ -163,7 +171,7 @@ module _ (M : List ℕ) where
         record { image = rw w (rewritten m (σ .state) (q .state) (a .fit .within) (g .fit .within) (a .image)); fit = g .fit; same = g .same },
       )
 
-  back-owes : (i : Returning) (m : List ℕ) (σ : Machine) → Between (i .file .bytes) m σ → backVerdict (i .file .bytes) m (i .log) (i .used) ≡ accepted → Owed CallKind.back i m σ
+  back-owes : (i : Returning) (m : List ℕ) (σ : Machine) → Between (i .file) m σ → backVerdict (i .file .bytes) m (i .log) (i .used) ≡ accepted → Owed CallKind.back i m σ
   unfolding backAnswer backMemory byVerdict written
   back-owes i m σ a t =
       let s = i .file .bytes in
@@ -178,7 +186,7 @@ module _ (M : List ℕ) where
         record { image = rw w (rewritten m (σ .state) u (a .fit .within) (b .fit .within) (a .image)); fit = b .fit; same = refl },
       )
 
-  pub owes : (k : CallKind) (i : Input k) (m : List ℕ) (σ : Machine) → Between (givenOf k i .bytes) m σ → Took k (answerOf k i m) → Owed k i m σ
+  owes : (k : CallKind) (i : Input k) (m : List ℕ) (σ : Machine) → Between (givenOf k i) m σ → Took k (answerOf k i m) → Owed k i m σ
   unfolding runAnswer lookAnswer logAnswer backAnswer
   owes CallKind.start i m σ a t = start-owes i m σ a (passed-is (startAnswer (i .bytes) m) t)
   owes CallKind.run i m σ a t = run-owes i m σ a (describes-is (memoryAnswer (i .file .bytes) m) (runFrom (i .file .bytes) m (i .number)) t)
@@ -190,5 +198,5 @@ module _ (M : List ℕ) where
       back-owes i m σ a (describes-is (backVerdict (i .file .bytes) m (i .log) (i .used)) (i .used - lastBytes (i .log) (i .used)) t)
 
   -- what each form owes in a list begun from M
-  abbrev pub owing : (k : CallKind) → Owes (List ℕ) Given (List ℕ) (λ e. e .bytes) programOf (Image M) (form k)
-  owing k = record { took? = took? k; refused = refusal k; accepted = owes k }
+  pub owing : (k : CallKind) → Owes (List ℕ) Given (List ℕ) (λ d. d .bytes) (Image M) FitFor (form k)
+  owing k = record { took? = took? k; refused = refusal k; accepted = λ i m σ e q a. owes k i m σ (same-file e (givenOf k i) m σ q a) }

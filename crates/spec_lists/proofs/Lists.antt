@@ -5,7 +5,7 @@ use mathlib.Core.List.{List, _++_}
 use Prim.Native.Nat.{ℕ}
 use lib.ListN.{drop}
 use Rattle.spec_language.specs.Check.{accepted, checkOf}
-use Rattle.spec_machine.specs.Machine.{State, exception, main, returned, running, emptyEnv}
+use Rattle.spec_machine.specs.Machine.{State, exception, calling, mainCall, returned, running}
 use Rattle.spec_machine.specs.Fit.{Fit}
 use Rattle.spec_machine.specs.File.{programOf}
 use Rattle.spec_machine.specs.Applies.{One}
@@ -21,7 +21,7 @@ use Rattle.spec_answers.specs.Answers.{startMemory, written}
 use Rattle.spec_lists.specs.Forms.{Given, CallKind, form}
 use Rattle.spec_lists.specs.Lists.{Begins, by-start, stored, Image, Final, Last, AnyCall, OneFileIn, StoryOf}
 use Rattle.spec_answers.proofs.Questions.{start-so, memory-so, memory-if}
-use Rattle.spec_lists.proofs.Entries.{Between, owing}
+use Rattle.spec_lists.proofs.Entries.{FitFor, Between, owing}
 
 -- the file that the list begins with is accepted
 begins-checked : (e : Given) {σ : Machine} {m : List ℕ} → Begins e σ m → checkOf (e .bytes) ≡ accepted
@@ -29,12 +29,12 @@ begins-checked e (by-start M t) = start-so (e .bytes) M t .0
 begins-checked e (stored M t) = memory-so (e .bytes) M t .0
 
 -- what holds before the first call
-begins-at : (e : Given) {σ : Machine} {m : List ℕ} → Begins e σ m → Between m (e .bytes) m σ
+begins-at : (e : Given) {σ : Machine} {m : List ℕ} → Begins e σ m → Between m e m σ
 unfolding startMemory written
 begins-at e (by-start M t) =
-    let w : startMemory (e .bytes) M ≡ image (main emptyEnv) ++ drop size M = rw t in
+    let w : startMemory (e .bytes) M ≡ image mainCall ++ drop size M = rw t in
     record {
-      image = record { holds = rw w (whole-held (main emptyEnv) (drop size M) tt .0); rest = refl; long = refl };
+      image = record { holds = rw w (whole-held mainCall (drop size M) tt .0); rest = refl; long = refl };
       fit = starts-fit (e .bytes) (e .small) (start-so (e .bytes) M t .0);
       same = refl;
     }
@@ -46,12 +46,12 @@ begins-at e (stored M t) =
 onward : (e : Given) → checkOf (e .bytes) ≡ accepted → (s : State) → Fit (programOf (e .bytes)) s → Final s ⊎ One (programOf (e .bytes)) s
 onward e c (State.value k) f = inl tt
 onward e c (exception x) f = inl tt
-onward e c (main α) f = inr (one-applies (e .bytes) (e .small) c (main α) f tt)
+onward e c (calling α o) f = inr (one-applies (e .bytes) (e .small) c (calling α o) f tt)
 onward e c (returned α k) f = inr (one-applies (e .bytes) (e .small) c (returned α k) f tt)
 onward e c (running k α g η K A) f = inr (one-applies (e .bytes) (e .small) c (running k α g η K A) f tt)
 
 -- what holds at the end
-closes : (M : List ℕ) (e : Given) (m : List ℕ) (σ : Machine) → checkOf (e .bytes) ≡ accepted → Between M (e .bytes) m σ → Last M e m σ
+closes : (M : List ℕ) (e : Given) (m : List ℕ) (σ : Machine) → checkOf (e .bytes) ≡ accepted → Between M e m σ → Last M e m σ
 closes M e m σ c a =
     record {
       onward = onward e c (σ .state) (a .fit);
@@ -67,8 +67,8 @@ closes M e m σ c a =
 pub whole-lists : (e : Given) (σ : Machine) (M : List ℕ) → Begins e σ M → (cs : List AnyCall) → OneFileIn M (e .bytes) cs → StoryOf M cs e σ
 whole-lists e σ M b cs one =
     let c = begins-checked e b in
-    whole (List ℕ) Given (List ℕ) (λ d. d .bytes) programOf (Image M) CallKind form (owing M) (e .bytes) (Last M)
-    (λ d m τ q a. closes M d m τ (rw q c) (rw q a)) cs e M σ refl one (begins-at e b)
+    whole (List ℕ) Given (List ℕ) (λ d. d .bytes) (Image M) FitFor CallKind form (owing M) (e .bytes) (Last M)
+    (λ d m τ q a. closes M d m τ (rw q c) a) cs e M σ refl one (begins-at e b)
 
 -- the state that a list begins with is the one fit state whose image is there
 pub begins-one : (e : Given) (σ : Machine) (M : List ℕ) → Begins e σ M → (s : State) → Fit (programOf (e .bytes)) s → Holds M s → s ≡ σ .state

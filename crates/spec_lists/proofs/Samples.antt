@@ -33,12 +33,12 @@ use Rattle.arith.specs.Operators as operators
 use Rattle.spec_machine.specs.Values.{nothing, int, result}
 use Rattle.spec_machine.specs.Program.{Ref, node}
 use Rattle.spec_machine.specs.Machine as machine
-use Rattle.spec_machine.specs.Machine.{Frame, wait, val, exec, emptyEnv, State, main, running}
+use Rattle.spec_machine.specs.Machine.{Frame, wait, val, exec, emptyEnv, State, mainCall, running}
 use Rattle.spec_machine.specs.Run.{Outcome, raised, Spent, runOf}
 use Rattle.spec_machine.specs.File.{backwards, kids, andForm, looks, lookAt, refAt, formOf, formAt, ifForm, seqForm, seeAt, unrolled, looped, stmtAt, typesFrom, funOf, programOf}
-use Rattle.spec_image.specs.Layout.{filled, bit, valueWords, valuesWords, nodesWords, refWord, block, gathering, frameWords, controlWords, activationWords}
-use Rattle.spec_image.specs.Image.{savedActivations, savedFrames, headWords, activationsOf, framesOf, image}
-use Rattle.spec_image.specs.Decode.{valueOf, valuesOf, nodesOf, refOf, operands, frames, frameOf, controlOf, activationOf, framesHeld, callersOf, runningOf, activationsIn, framesIn, states, stateOf}
+use Rattle.spec_image.specs.Layout.{filled, bit, valueWords, valuesWords, nodesWords, refWord, block, gathering, frameWords, controlWords, activationWords, envWords}
+use Rattle.spec_image.specs.Image.{savedActivations, savedFrames, headWords, activationsOf, framesOf, envPart, image}
+use Rattle.spec_image.specs.Decode.{valueOf, valuesOf, nodesOf, refOf, operands, frames, frameOf, controlOf, activationOf, framesHeld, callersOf, runningOf, activationsIn, framesIn, envOf, states, stateOf}
 use Rattle.spec_image.specs.Sizes.{size}
 use Rattle.spec_image.specs.Memory.{fitWords}
 use Rattle.spec_answers.specs.Answers.{roomFor, imageIn, variableIn, startAnswer, memoryAnswer, lookVerdict, granted, denied, byVerdict, written, startMemory, runFrom, runAnswer, runMemory, lookAnswer}
@@ -114,7 +114,7 @@ sample-list : (startAnswer file dirty ≡ accepted)
     × (backAnswer file (holding third) [] 0 ≡ denied 18 0 0)
     × (logAnswer file (holding third) 9 (replicate 67 0) 0 ≡ granted (record { stop = LogFull; steps = 1; state = fourth; log = fourthStep ++ replicate 39 0; used = 28 }))
     × (logMemory file (holding third) 9 (replicate 67 0) 0 ≡ holding fourth)
-unfolding lowest sets.has sets.none sets.with without both either less below u16At u32At markAt functions nodes editionOf resultOf paramsOf varsOf maskOf countOf kindAt aAt bAt sizeAt sumOf startOf partOf firstOf shift orElse firstIn unless arities arityOf arityAt walk children differ isExpression wantsExpression wrongSort prior last shapes shapeAt readsFrom readsOf grow statementIn statementAt declares leaves missing lacks returns declaresAt declCount declOf under usesVariable paramType varType operatorType typesOf typeAt condition wantsOf wantAt suits agree records.within lengthOk headerOk recordsOk functionOk sumOk mainOk nodes.fields fieldsOk nodeOk nodes.total sizeOk wrongChild nodes.some misplaced undeclared firstUndeclared outside mistyped answers originOf inPart partQuestions questions refuse firstRefusal checkOf ints.int ints.wrap operators.addOf operators.subOf operators.mulOf operators.quotOf operators.remOf operators.shlOf operators.shrOf operators.andOf operators.orOf operators.xorOf operators.ltOf operators.leOf operators.gtOf operators.geOf operators.eqOf operators.neOf operators.noQuotient operators.divided operators.noShift operators.shifted operators.results operators.applied backwards kids andForm looks lookAt refAt formOf formAt ifForm seqForm seeAt unrolled looped stmtAt typesFrom funOf programOf result runOf filled bit valueWords valuesWords nodesWords refWord block gathering frameWords controlWords activationWords savedActivations savedFrames headWords activationsOf framesOf image valueOf valuesOf nodesOf refOf operands frames frameOf controlOf activationOf framesHeld callersOf runningOf activationsIn framesIn states stateOf fitWords roomFor imageIn variableIn startAnswer memoryAnswer lookVerdict byVerdict written startMemory runFrom runAnswer runMemory lookAnswer bytesOf changeBytes wordBytes recordOf changesAt wordsAt lastNumber lastBytes hasRecord earlier logOf logFrom logAnswer logMemory leadsTo wordsBefore backTo recordIn backVerdict backAnswer backMemory
+unfolding lowest sets.has sets.none sets.with without both either less below u16At u32At markAt functions nodes editionOf resultOf paramsOf varsOf maskOf countOf kindAt aAt bAt sizeAt sumOf startOf partOf firstOf shift orElse firstIn unless arities arityOf arityAt walk children differ isExpression wantsExpression wrongSort prior last shapes shapeAt readsFrom readsOf grow statementIn statementAt declares leaves missing lacks returns declaresAt declCount declOf under usesVariable paramType varType operatorType typesOf typeAt condition wantsOf wantAt suits agree records.within lengthOk headerOk recordsOk functionOk sumOk mainOk nodes.fields fieldsOk nodeOk nodes.total sizeOk wrongChild nodes.some misplaced undeclared firstUndeclared outside mistyped answers originOf inPart partQuestions questions refuse firstRefusal checkOf ints.int ints.wrap operators.addOf operators.subOf operators.mulOf operators.quotOf operators.remOf operators.shlOf operators.shrOf operators.andOf operators.orOf operators.xorOf operators.ltOf operators.leOf operators.gtOf operators.geOf operators.eqOf operators.neOf operators.noQuotient operators.divided operators.noShift operators.shifted operators.results operators.applied backwards kids andForm looks lookAt refAt formOf formAt ifForm seqForm seeAt unrolled looped stmtAt typesFrom funOf programOf result runOf filled bit valueWords valuesWords nodesWords refWord block gathering frameWords controlWords activationWords envWords savedActivations savedFrames headWords activationsOf framesOf envPart image valueOf valuesOf nodesOf refOf operands frames frameOf controlOf activationOf framesHeld callersOf runningOf activationsIn framesIn envOf states stateOf fitWords roomFor imageIn variableIn startAnswer memoryAnswer lookVerdict byVerdict written startMemory runFrom runAnswer runMemory lookAnswer bytesOf changeBytes wordBytes recordOf changesAt wordsAt lastNumber lastBytes hasRecord earlier logOf logFrom logAnswer logMemory leadsTo wordsBefore backTo recordIn backVerdict backAnswer backMemory
 sample-list = (refl, refl, refl, refl, refl, refl, refl, refl, refl, refl, refl, refl, refl, refl, refl, refl, refl, refl, refl, refl, refl)
 
 -- decl#7(0, int, seq#6(assign#1(0, 32#0), return#5(1#2 <<#4 x0#3))) in an edition
@@ -136,7 +136,7 @@ edition-list : (startAnswer (shifts 1) dirty ≡ accepted)
     × (runAnswer (shifts 1) ready 9 ≡ granted (record { outcome = raised machine.arith; steps = 1; state = State.exception machine.arith }))
     × (memoryAnswer (shifts 1) (runMemory (shifts 1) ready 9) ≡ accepted)
     × (lookAnswer (shifts 1) (runMemory (shifts 1) ready 9) 0 ≡ denied 17 0 0)
-unfolding lowest sets.has sets.none sets.with without both either less below u16At u32At markAt functions nodes editionOf resultOf paramsOf varsOf maskOf countOf kindAt aAt bAt sizeAt sumOf startOf partOf firstOf shift orElse firstIn unless arities arityOf arityAt walk children differ isExpression wantsExpression wrongSort prior last shapes shapeAt readsFrom readsOf grow statementIn statementAt declares leaves missing lacks returns declaresAt declCount declOf under usesVariable paramType varType operatorType typesOf typeAt condition wantsOf wantAt suits agree records.within lengthOk headerOk recordsOk functionOk sumOk mainOk nodes.fields fieldsOk nodeOk nodes.total sizeOk wrongChild nodes.some misplaced undeclared firstUndeclared outside mistyped answers originOf inPart partQuestions questions refuse firstRefusal checkOf ints.int ints.wrap operators.addOf operators.subOf operators.mulOf operators.quotOf operators.remOf operators.shlOf operators.shrOf operators.andOf operators.orOf operators.xorOf operators.ltOf operators.leOf operators.gtOf operators.geOf operators.eqOf operators.neOf operators.noQuotient operators.divided operators.noShift operators.shifted operators.results operators.applied backwards kids andForm looks lookAt refAt formOf formAt ifForm seqForm seeAt unrolled looped stmtAt typesFrom funOf programOf result runOf filled bit valueWords valuesWords nodesWords refWord block gathering frameWords controlWords activationWords savedActivations savedFrames headWords activationsOf framesOf image valueOf valuesOf nodesOf refOf operands frames frameOf controlOf activationOf framesHeld callersOf runningOf activationsIn framesIn states stateOf fitWords roomFor imageIn variableIn startAnswer memoryAnswer lookVerdict byVerdict written startMemory runFrom runAnswer runMemory lookAnswer
+unfolding lowest sets.has sets.none sets.with without both either less below u16At u32At markAt functions nodes editionOf resultOf paramsOf varsOf maskOf countOf kindAt aAt bAt sizeAt sumOf startOf partOf firstOf shift orElse firstIn unless arities arityOf arityAt walk children differ isExpression wantsExpression wrongSort prior last shapes shapeAt readsFrom readsOf grow statementIn statementAt declares leaves missing lacks returns declaresAt declCount declOf under usesVariable paramType varType operatorType typesOf typeAt condition wantsOf wantAt suits agree records.within lengthOk headerOk recordsOk functionOk sumOk mainOk nodes.fields fieldsOk nodeOk nodes.total sizeOk wrongChild nodes.some misplaced undeclared firstUndeclared outside mistyped answers originOf inPart partQuestions questions refuse firstRefusal checkOf ints.int ints.wrap operators.addOf operators.subOf operators.mulOf operators.quotOf operators.remOf operators.shlOf operators.shrOf operators.andOf operators.orOf operators.xorOf operators.ltOf operators.leOf operators.gtOf operators.geOf operators.eqOf operators.neOf operators.noQuotient operators.divided operators.noShift operators.shifted operators.results operators.applied backwards kids andForm looks lookAt refAt formOf formAt ifForm seqForm seeAt unrolled looped stmtAt typesFrom funOf programOf result runOf filled bit valueWords valuesWords nodesWords refWord block gathering frameWords controlWords activationWords envWords savedActivations savedFrames headWords activationsOf framesOf envPart image valueOf valuesOf nodesOf refOf operands frames frameOf controlOf activationOf framesHeld callersOf runningOf activationsIn framesIn envOf states stateOf fitWords roomFor imageIn variableIn startAnswer memoryAnswer lookVerdict byVerdict written startMemory runFrom runAnswer runMemory lookAnswer
 edition-list = (refl, refl, refl, refl, refl, refl, refl, refl)
 
 -- whether all are bytes
@@ -167,9 +167,9 @@ calls =
     ∷ record { kind = CallKind.memory; given = bytes }
     ∷ record { kind = CallKind.start; given = bytes } ∷ []
 
-sample-story : StoryOf begun calls bytes (record { state = main emptyEnv; history = [] })
+sample-story : StoryOf begun calls bytes (record { state = mainCall; history = [] })
 unfolding unless lengthOk questions refuse firstRefusal memoryAnswer byVerdict runAnswer
-sample-story = whole-lists bytes (record { state = main emptyEnv; history = [] }) begun (by-start dirty (sample-list .0)) calls ((λ t. refl), ((λ t. refl), ((λ t. absurd t), ((λ t. refl), ((λ t. refl), tt)))))
+sample-story = whole-lists bytes (record { state = mainCall; history = [] }) begun (by-start dirty (sample-list .0)) calls ((λ t. refl), ((λ t. refl), ((λ t. absurd t), ((λ t. refl), ((λ t. refl), tt)))))
 
 -- five logged steps, a look-up, two steps back, a look-up, a step back by an empty log, a logged run that a full log stops and a memory check: the same theorem
 abbrev back-calls : List AnyCall
@@ -183,9 +183,9 @@ back-calls =
     ∷ record { kind = CallKind.logged; given = record { file = bytes; number = 9; log = replicate 67 0; used = 0 } }
     ∷ record { kind = CallKind.memory; given = bytes } ∷ []
 
-back-story : StoryOf begun back-calls bytes (record { state = main emptyEnv; history = [] })
+back-story : StoryOf begun back-calls bytes (record { state = mainCall; history = [] })
 back-story =
-    whole-lists bytes (record { state = main emptyEnv; history = [] }) begun (by-start dirty (sample-list .0)) back-calls
+    whole-lists bytes (record { state = mainCall; history = [] }) begun (by-start dirty (sample-list .0)) back-calls
     ((λ t. refl), ((λ t. refl), ((λ t. refl), ((λ t. refl), ((λ t. refl), ((λ t. refl), ((λ t. refl), ((λ t. refl), tt))))))))
 
 -- a run to the shift, a look-up, a run with no file, a run that raises arith and a memory check, on a file of edition 1: the same theorem
@@ -197,8 +197,8 @@ edition-calls =
     ∷ record { kind = CallKind.run; given = record { file = shifting; number = 10 } }
     ∷ record { kind = CallKind.memory; given = shifting } ∷ []
 
-edition-story : StoryOf (startMemory (shifts 1) dirty) edition-calls shifting (record { state = main emptyEnv; history = [] })
+edition-story : StoryOf (startMemory (shifts 1) dirty) edition-calls shifting (record { state = mainCall; history = [] })
 unfolding unless lengthOk questions refuse firstRefusal memoryAnswer byVerdict runAnswer
 edition-story =
-    whole-lists shifting (record { state = main emptyEnv; history = [] }) (startMemory (shifts 1) dirty) (by-start dirty (edition-list .0)) edition-calls
+    whole-lists shifting (record { state = mainCall; history = [] }) (startMemory (shifts 1) dirty) (by-start dirty (edition-list .0)) edition-calls
     ((λ t. refl), ((λ t. refl), ((λ t. absurd t), ((λ t. refl), ((λ t. refl), tt)))))

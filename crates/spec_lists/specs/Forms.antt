@@ -7,7 +7,7 @@ use lib.ListN.{length, getD}
 use Rattle.spec_language.specs.Check.{Verdict, accepted, refused}
 use Rattle.spec_machine.specs.Values.{Value}
 use Rattle.spec_machine.specs.Program.{Program}
-use Rattle.spec_machine.specs.Machine.{main, emptyEnv, Rule, Event, Step}
+use Rattle.spec_machine.specs.Machine.{mainCall, Rule, Event, Step}
 use Rattle.spec_machine.specs.Fit.{Fit}
 use Rattle.spec_machine.specs.Run.{allHeld, Outcome, RunsTo, Ran, lookUp}
 use Rattle.spec_machine.specs.File.{programOf}
@@ -141,7 +141,7 @@ pub record BackDoes (P : Program) (a : Result ℕ) (σ τ : Machine) : Type 0 wh
 
 -- what an accepted call does to the machine: start makes it main(), a run takes it on, logged or not, a step back takes it back, all else leaves it
 abbrev pub Does : (k : CallKind) → Input k → AnswerType k → Machine → Machine → Type 0
-Does CallKind.start i a σ τ = (τ .state ≡ main emptyEnv) × (τ .history ≡ [])
+Does CallKind.start i a σ τ = (τ .state ≡ mainCall) × (τ .history ≡ [])
 Does CallKind.run i a σ τ = RunDoes (programOf (i .file .bytes)) (i .number) a σ τ
 Does CallKind.memory i a σ τ = τ ≡ σ
 Does CallKind.look i a σ τ = (τ ≡ σ) × LookDoes (i .number) a σ

@@ -5,7 +5,7 @@ use mathlib.Core.List.{List, []}
 use Prim.Native.Nat.{ℕ}
 use lib.ListN.{length, drop}
 use Rattle.spec_language.specs.Check.{accepted}
-use Rattle.spec_machine.specs.Machine.{State, exception, main, returned, running, emptyEnv}
+use Rattle.spec_machine.specs.Machine.{State, exception, calling, mainCall, returned, running}
 use Rattle.spec_machine.specs.Run.{allHeld}
 use Rattle.spec_machine.specs.File.{programOf}
 use Rattle.spec_machine.specs.Applies.{One}
@@ -19,7 +19,7 @@ use Rattle.spec_lists.specs.Forms.{Given, CallKind, form}
 
 -- the list begins with memory that a start wrote over any content M, or that passed the memory check
 pub data Begins (e : Given) : Machine → List ℕ → Type 0 where
-  by-start : (M : List ℕ) → startAnswer (e .bytes) M ≡ accepted → Begins e (record { state = main emptyEnv; history = [] }) (startMemory (e .bytes) M)
+  by-start : (M : List ℕ) → startAnswer (e .bytes) M ≡ accepted → Begins e (record { state = mainCall; history = [] }) (startMemory (e .bytes) M)
   stored : (M : List ℕ) → memoryAnswer (e .bytes) M ≡ accepted → Begins e (record { state = stateOf M; history = allHeld (stateOf M) }) M
 
 -- the memory m holds the image of the state; its later words and its length are those of M, which the list begins from
@@ -32,7 +32,7 @@ pub record Image (M : List ℕ) (s : State) (m : List ℕ) : Type 0 where
 abbrev pub Final : State → Type 0
 Final (State.value c) = Unit {0}
 Final (exception x) = Unit {0}
-Final (main α) = ⊥
+Final (calling α o) = ⊥
 Final (returned α c) = ⊥
 Final (running c α f η K A) = ⊥
 

@@ -30,7 +30,7 @@ use Rattle.spec_log.specs.Records.{recordOf, lastBytes}
 use Rattle.spec_log.specs.Logged.{recordBytes, Logged, later, logOf}
 use Rattle.spec_log.specs.Answers.{logFrom, logAnswer, logMemory, leadsTo, wordsBefore, backTo, backVerdict, backAnswer, backMemory}
 use Rattle.spec_log.specs.Back.{LogsOn, StepsBack}
-use Rattle.spec_log.proofs.Questions.{back-if}
+use Rattle.spec_log.proofs.Questions.{back-if, back-tells}
 use Rattle.spec_log.proofs.Records.{last-bytes, has-record, record-back, record-least}
 use Rattle.spec_log.proofs.OneStep.{OneStep, run-one}
 use Rattle.spec_log.proofs.Logged.{withStep, logNext, Keeps, by-steps, logs}
@@ -88,10 +88,10 @@ module _ (s : List ℕ) (bytes : Bytes s) (passed : checkOf s ≡ accepted) wher
         back-if s m log end (memory-if s m passed l (image-passes P (file-sized s passed) u R g)) leads-back
 
     step-back : StepsBack s log 1 m end (image t ++ R) used
-    unfolding backAnswer backMemory byVerdict written
+    unfolding backMemory written
     step-back =
         let e : end - lastBytes log end ≡ used = omega (arith, last-bytes (image t) (image u) long p q used hp) in
-        let a : backAnswer s m log end ≡ granted used = rw (accepted-back, e) in
+        let a : backAnswer s m log end ≡ granted used = back-tells s m log end accepted-back ∙ ap granted e in
         let b : backMemory s m log end ≡ image t ++ R = rw (accepted-back, words-back, state-back, whole-held u R (g .within) .1) in
         let n : StepsBack s log 0 (backMemory s m log end) used (image t ++ R) used = rw b StepsBack.none in
         StepsBack.then a n
@@ -133,6 +133,20 @@ record Call (s m : List ℕ) (a : ℕ) (log : List ℕ) (used : ℕ) (q : Logged
   pub keeps : Keeps (programOf s) (stateOf m) (allHeld (stateOf m)) a log used q
   pub back : (l : List ℕ) → take (q .used) l ≡ take (q .used) (q .log) → StepsBack s l (q .steps) (logMemory s m a log used) (q .used) m used
 
+-- runs in a row, each of them such a call
+module _ (s : List ℕ) (call : (m : List ℕ) (a : ℕ) (log : List ℕ) (used : ℕ) (q : Logged) → logAnswer s m a log used ≡ granted q → Call s m a log used q) where
+  -- later runs leave what is in use
+  kept : {n : ℕ} {m log m′ log′ : List ℕ} {used used′ : ℕ} → LogsOn s n m log used m′ log′ used′ → take used log′ ≡ take used log
+  kept LogsOn.none = refl
+  kept (LogsOn.then {m} {log} {m′} {log′} {used} a q e rest) =
+      let k = call m a log used q e .keeps in
+      sym (take-take used (q .used) log′ (k .grows)) ∙ ap (λ (l : List ℕ). take used l) (kept rest) ∙ take-take used (q .used) (q .log) (k .grows) ∙ k .before
+
+  -- their steps are gone back
+  rows-back : {n : ℕ} {m log m′ log′ : List ℕ} {used used′ : ℕ} → LogsOn s n m log used m′ log′ used′ → StepsBack s log′ n m′ used′ m used
+  rows-back LogsOn.none = StepsBack.none
+  rows-back (LogsOn.then {m} {log} {m′} {log′} {used} a q e rest) = back-append (rows-back rest) (call m a log used q e .back log′ (kept rest))
+
 module _ (s : List ℕ) (bytes : Bytes s) where
   call : (m : List ℕ) (a : ℕ) (log : List ℕ) (used : ℕ) (q : Logged) → logAnswer s m a log used ≡ granted q → Call s m a log used q
   unfolding logAnswer logMemory logFrom written
@@ -147,13 +161,5 @@ module _ (s : List ℕ) (bytes : Bytes s) where
         back = λ l t. rw b (rw (y .1, d) at (run-back s bytes (x .0) a (stateOf m) log used (h .1) l (drop size m) (rw (y .1) t)));
       }
 
-  -- later runs leave what is in use
-  kept : {n : ℕ} {m log m′ log′ : List ℕ} {used used′ : ℕ} → LogsOn s n m log used m′ log′ used′ → take used log′ ≡ take used log
-  kept LogsOn.none = refl
-  kept (LogsOn.then {m} {log} {m′} {log′} {used} a q e rest) =
-      let k = call m a log used q e .keeps in
-      sym (take-take used (q .used) log′ (k .grows)) ∙ ap (λ (l : List ℕ). take used l) (kept rest) ∙ take-take used (q .used) (q .log) (k .grows) ∙ k .before
-
   pub all-back : {n : ℕ} {m log m′ log′ : List ℕ} {used used′ : ℕ} → LogsOn s n m log used m′ log′ used′ → StepsBack s log′ n m′ used′ m used
-  all-back LogsOn.none = StepsBack.none
-  all-back (LogsOn.then {m} {log} {m′} {log′} {used} a q e rest) = back-append (all-back rest) (call m a log used q e .back log′ (kept rest))
+  all-back runs = rows-back s call runs

@@ -50,6 +50,13 @@ length-earlier log w used h = go (eqb (lastNumber log used) wholeNumber) (used -
     go true at = length-words log size at
     go false at = length-restored (changesAt log at (lastNumber log used)) w ∙ h
 
+-- a state that leads to words has one step, and they are the image after it
+pub leads-so : (P : Program) (s : State) (w : List ℕ) → leadsTo P s w ≡ true → (runOf P 1 s .steps ≡ 1) × (image (runOf P 1 s .state) ≡ w)
+unfolding leadsTo
+leads-so P s w t =
+    let b = both (eqb (runOf P 1 s .steps) 1) (eqWords (image (runOf P 1 s .state)) w) t in
+    (eqb-true (runOf P 1 s .steps) 1 (b .0), same-eq (image (runOf P 1 s .state)) w (b .1))
+
 module _ (P : Program) (m log : List ℕ) (used : ℕ) where
   -- the state before the last step, as the log says
   abbrev pub stateBefore : State
@@ -65,17 +72,17 @@ module _ (P : Program) (m log : List ℕ) (used : ℕ) where
 
   module _ (c : Accepted P) (constants : ConstWords P) (z : Sized P) where
     pub back-does : size ≤ length m → Holds m (stateOf m) → Fit P (stateOf m) → backTo P m log used ≡ true → Before
-    unfolding backTo leadsTo wordsBefore
+    unfolding backTo wordsBefore
     back-does l h f t =
         let w : List ℕ = wordsBefore m log used in
         let a = both (fitWords P w) _ (both (hasRecord log used) _ t .1) in
         let q = holds-fit P w (a .0) in
         let one : Ran = runOf P 1 (stateOf w) in
-        let b = both (eqb (one .steps) 1) (eqWords (image (one .state)) (take size m)) (a .1) in
+        let b = leads-so P (stateOf w) (take size m) (a .1) in
         let g = ran c constants 1 (stateOf w) (allHeld (stateOf w)) (q .1) refl in
-        let o = one-step (g .runs) refl (eqb-true (one .steps) 1 (b .0)) in
+        let o = one-step (g .runs) refl (b .0) in
         let d : one .state ≡ stateOf m
-        = image-inj (one .state) (stateOf m) (g .fit .within) (fit-narrow P z (one .state) (g .fit)) (f .within) (fit-narrow P z (stateOf m) f) (same-eq (image (one .state)) (take size m) (b .1) ∙ h) in
+        = image-inj (one .state) (stateOf m) (g .fit .within) (fit-narrow P z (one .state) (g .fit)) (f .within) (fit-narrow P z (stateOf m) f) (b .1 ∙ h) in
         let k : length w ≡ size = length-earlier log (take size m) used (length-take-le size m l) in
         let i : take size w ≡ w = take-all size w (omega (arith, k)) in
         record { fit = q .1; words = sym i ∙ q .0; rule = o .rule; event = o .event; step = subst (λ (t : State). Step P (o .rule) (o .event) (stateOf w) t) d (o .step) }

@@ -2,7 +2,7 @@
 use mathlib.Core.Path.{_≡_, refl, sym, ap, _∙_}
 use mathlib.Core.Bool.{true, false}
 use mathlib.Core.List.{List}
-use Prim.Native.Nat.{ℕ, zero, suc, _+_, _-_, _≤_}
+use Prim.Native.Nat.{ℕ, zero, suc, _+_, _-_, _<_, _≤_}
 use native.Mathlib.Omega.{arith}
 use lib.Dec.{eqb, leb}
 use lib.ListN.{length, take, drop}
@@ -18,6 +18,7 @@ use Rattle.spec_machine.specs.Fit.{WithinLimits, Fit}
 use Rattle.spec_machine.specs.Run.{Outcome, RunsTo, Ran, allHeld, stopped, runOf}
 use Rattle.spec_machine.proofs.Accepted.{Accepted}
 use Rattle.spec_machine.proofs.KeepWords.{ConstWords}
+use Rattle.spec_machine.proofs.One.{one-rule}
 use Rattle.spec_machine.proofs.Runs.{Good, ran, runs-are}
 use Rattle.spec_image.specs.Image.{image}
 use Rattle.spec_log.specs.Records.{recordOf}
@@ -120,6 +121,13 @@ unfolding logOf runOf
 log-stop {s = s} zero log used r = ap (λ (q : Ran). still (ends (q .outcome)) s log used) (runs-are r)
 log-stop {P} {s} (suc a) log used r =
     ap (λ (q : Ran). logged s q log used (λ l u. logOf P a (q .state) l u)) (runs-are (stands r (omega arith) refl 0))
+
+-- no step is taken whose record does not fit
+pub none-over : {P : Program} {r : Rule} {v : Event} {s t u : State} {h k : List Set} {free a n : ℕ} {o : Stop}
+    → LogsTo P free s h a n u k o → Step P r v s t → free < recordBytes s t → n ≡ 0
+none-over (stops q) p l = refl
+none-over (full q w f) p l = refl
+none-over (LogsTo.goes q w f d rest) p l = let z = one-rule p q .2 in absurd (omega (arith, rw z at l, f))
 
 -- the relation is the function: stop, steps and state are determined
 pub logs-are : {P : Program} {s u : State} {h k : List Set} {free a n : ℕ} {o : Stop} → LogsTo P free s h a n u k o → (log : List ℕ) (used : ℕ) → length log - used ≡ free

@@ -5,7 +5,7 @@ use Prim.Native.Nat.{ℕ, suc, _<_, _≤_}
 use native.Mathlib.Omega.{arith}
 use Rattle.varset.specs.Sets.{Set}
 use Rattle.spec_machine.specs.Program.{Program}
-use Rattle.spec_machine.specs.Machine.{State, exception, main, returned, running, Rule, Event, Step}
+use Rattle.spec_machine.specs.Machine.{State, exception, calling, returned, running, Rule, Event, Step}
 use Rattle.spec_machine.specs.Next.{Move, next}
 use Rattle.spec_machine.specs.Fit.{WithinLimits}
 use Rattle.spec_machine.specs.Run.{carry, Outcome, RunsTo, ended, failed, spent, full, ReadsHeld, stopped, runOf}
@@ -59,7 +59,7 @@ stands (RunsTo.goes p w q rest) l e b = absurd (omega arith)
 pub stopped-run : {P : Program} (s : State) (h : List Set) → RunsTo P s h 0 0 s h (stopped s .outcome)
 stopped-run (State.value c) h = ended
 stopped-run (exception x) h = failed
-stopped-run (main α) h = spent tt
+stopped-run (calling α o) h = spent tt
 stopped-run (returned α c) h = spent tt
 stopped-run (running c α f η K A) h = spent tt
 
@@ -67,7 +67,7 @@ stopped-run (running c α f η K A) h = spent tt
 pub stopped-at : (s : State) → (stopped s .steps ≡ 0) × (stopped s .state ≡ s)
 stopped-at (State.value c) = (refl, refl)
 stopped-at (exception x) = (refl, refl)
-stopped-at (main α) = (refl, refl)
+stopped-at (calling α o) = (refl, refl)
 stopped-at (returned α c) = (refl, refl)
 stopped-at (running c α f η K A) = (refl, refl)
 

@@ -2,13 +2,14 @@
 use mathlib.Core.Path.{_≡_, sym, ap, _∙_}
 use mathlib.Core.Bool.{true, false}
 use mathlib.Core.List.{List, [], _∷_, _++_, append-assoc}
-use Prim.Native.Nat.{ℕ}
+use Prim.Native.Nat.{ℕ, _-_}
 use Rattle.records.specs.Search.{unless}
 use Rattle.spec_language.specs.Check.{accepted, refused, Asked, questions, refuse, firstRefusal}
 use Rattle.spec_machine.specs.File.{programOf}
-use Rattle.spec_answers.specs.Answers.{roomFor, imageIn, memoryAnswer}
+use Rattle.spec_answers.specs.Answers.{roomFor, imageIn, memoryAnswer, granted, byVerdict}
 use Rattle.spec_answers.proofs.Questions.{put-after, put-early, put-front, put-rest, test-passes, passes-test}
-use Rattle.spec_log.specs.Answers.{backTo, recordIn, backVerdict}
+use Rattle.spec_log.specs.Records.{lastBytes}
+use Rattle.spec_log.specs.Answers.{backTo, recordIn, backVerdict, backAnswer}
 
 module _ (s m log : List ℕ) (used : ℕ) where
   -- the questions of the memory, and question 18 after them
@@ -30,6 +31,11 @@ module _ (s m log : List ℕ) (used : ℕ) where
   pub back-refused : (q p x : ℕ) → memoryAnswer s m ≡ refused q p x → backVerdict s m log used ≡ refused q p x
   unfolding memoryAnswer
   back-refused q p x e = in-order ∙ put-early memoryQuestions _ q p x e
+
+  -- an accepted step back tells the used length without the last record
+  pub back-tells : backVerdict s m log used ≡ accepted → backAnswer s m log used ≡ granted (used - lastBytes log used)
+  unfolding backAnswer byVerdict
+  back-tells e = rw e
 
   -- question 18 is left to decide
   back-last : memoryAnswer s m ≡ accepted → backVerdict s m log used ≡ firstRefusal (recordIn s m log used ∷ [])

@@ -1,19 +1,19 @@
 -- The record of a step: how long it is, and that it is read back from the end of a log.
 use mathlib.Core.Path.{_≡_, refl, sym, ap, _∙_}
-use mathlib.Core.Bool.{Bool, true, false}
+use mathlib.Core.Bool.{Bool, true, false, and-false}
 use mathlib.Core.List.{List, [], _∷_, _++_, append-assoc}
 use Prim.Native.Nat.{ℕ, suc, _+_, _-_, _^_, _<_, _≤_}
 use native.Mathlib.Omega.{arith}
 use lib.Dec.{eqb, leb}
 use lib.ListN.{length, getD, take, drop, set, length-append}
 use lib.Seq.{take-set-le, drop-set-lt}
-use borrow.Author.Tests.{ne-eqb, le-leb, leb-true}
+use borrow.Author.Tests.{ne-eqb, le-leb, lt-leb, leb-true}
 use Rattle.varset.specs.Lowest.{pick}
 use Rattle.words.specs.Blocks.{puts}
 use Rattle.records.specs.Bytes.{u16At}
 use Rattle.records.proofs.Bools.{by}
 use Rattle.spec_image.specs.Sizes.{size}
-use Rattle.spec_log.specs.Changes.{changes}
+use Rattle.spec_log.specs.Changes.{changes, restored}
 use Rattle.spec_log.specs.Records.{two, mark, markNumber, wholeNumber, mostChanges, bytesOf, longest, changeBytes, wordBytes, recordOf, changesAt, wordsAt, lastNumber, lastBytes, hasRecord, earlier}
 use Rattle.spec_log.proofs.Changes.{back, changes-each}
 use Rattle.spec_log.proofs.Bytes.{NarrowChanges, two-at, changes-read, words-read, length-changes, length-bytes}
@@ -77,6 +77,11 @@ module _ (a b : List ℕ) where
     pub record-room : length (recordOf a b) ≤ 65600
     record-room = omega (arith, record-short)
 
+-- what says that it is longer than 65,540 bytes is no record
+pub none-longer : (log : List ℕ) (used : ℕ) → 65540 < lastBytes log used → hasRecord log used ≡ false
+unfolding hasRecord
+none-longer log used h = rw (lt-leb (lastBytes log used) longest h, and-false (leb used (length log)))
+
 -- a record at the end of the used part of a log
 module _ (a b : List ℕ) (ha : length a ≡ size) (p q : List ℕ) (u : ℕ) (hp : length p ≡ u) where
   abbrev withRecord : List ℕ
@@ -130,14 +135,18 @@ module _ (a b : List ℕ) (ha : length a ≡ size) (p q : List ℕ) (u : ℕ) (h
     many-read : fewChanges a b ≡ false → wordsAt withRecord (u + 2) size ≡ a
     many-read e = rw (inside, number-many a b e .1) (rw ha at (words-read a (p ++ mark) (two (numberOf a b) ++ q) (u + 2) after-mark words))
 
+    -- all changes are put back, or all words
+    few-earlier : fewChanges a b ≡ true → earlier withRecord after b ≡ restored (changes 0 a b) b
+    unfolding earlier
+    few-earlier e = rw (from, last-number, number-few a b e .2, few-read e)
+
+    many-earlier : fewChanges a b ≡ false → earlier withRecord after b ≡ a
+    unfolding earlier
+    many-earlier e = rw (from, last-number, number-many a b e .0) (many-read e)
+
     -- the words before the step
     pub record-back : length b ≡ size → earlier withRecord after b ≡ a
-    unfolding earlier
-    record-back hb =
-        rw (from, last-number)
-        (by (fewChanges a b)
-        (λ e. rw (number-few a b e .2, few-read e) (back a b (ha ∙ sym hb)))
-        (λ e. rw (number-many a b e .0) (many-read e)))
+    record-back hb = by (fewChanges a b) (λ e. few-earlier e ∙ back a b (ha ∙ sym hb)) many-earlier
 
 -- words stored from a place on leave those before it
 kept-from : (vs l : List ℕ) (at k v : ℕ) → v ≤ at + k → take v (puts l at k vs) ≡ take v l

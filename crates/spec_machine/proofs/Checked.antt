@@ -77,7 +77,7 @@ module _ (s : List ℕ) (h : Accepted s) (f : ℕ) (l : f < functions s) where
         (λ e q. and-good e)
         (λ e q. call-good e)
         (λ e q. tt)
-        (λ u k q. absurd (false≢true q))
+        (λ u q. absurd (false≢true q))
 
     pub statement-good : isStmt (formAt t i) ≡ true → GoodS (programOf s) f (formAt t i)
     unfolding programOf funOf arityOf arities wantsExpression

@@ -9,7 +9,7 @@ use Rattle.arith.specs.Operators.{shlOf, shrOf, noShift, results, applied}
 use Rattle.arith.proofs.Shifts.{Shift, shift-raises, applied-same}
 use Rattle.spec_machine.specs.Values.{Value, nothing, int, truth, resultValue, result}
 use Rattle.spec_machine.specs.Program.{Operation, op, fn, ExprForm, const, apply, StmtForm, Program}
-use Rattle.spec_machine.specs.Machine.{arith, Frame, gather, and, wait, branch, check, val, eval, exec, Saved, RunEnv, State, exception, main, returned, running, Rule}
+use Rattle.spec_machine.specs.Machine.{arith, Frame, gather, and, wait, branch, check, val, eval, exec, Saved, RunEnv, State, exception, calling, returned, running, Rule}
 use Rattle.spec_machine.specs.Next.{goes, settle, opNext, give, opens, runs, next}
 use Rattle.spec_machine.specs.Fit.{IsWord, InWords}
 
@@ -27,7 +27,7 @@ module _ (P : Program) (e : ℕ) (α : RunEnv) (f : ℕ) (η : List Value) (K : 
   unfolding result
   result-same o a b h k = ap resultValue (applied-same e (P .edition) a b h o k)
 
-  operator-same : (o : ℕ) (vs : List Value) (v : Value) → IsWord v
+  operator-same : (o : ℕ) (vs : List Value) (v : Value) → IsWord α v
       → (ShiftsOutside (running (val v) α f η (gather (op o) vs [] ∷ K) A) → ⊥) → opNext e o vs v α f η K A ≡ opNext (P .edition) o vs v α f η K A
   operator-same o [] v w n = refl
   operator-same o (nothing ∷ vs) v w n = refl
@@ -63,7 +63,7 @@ module _ (P : Program) (e : ℕ) (α : RunEnv) (f : ℕ) (η : List Value) (K : 
   runs-same StmtForm.stray = refl
 
 module _ (P : Program) (e : ℕ) where
-  give-same : (v : Value) (α : RunEnv) (f : ℕ) (η : List Value) (K : List Frame) (A : List Saved) → IsWord v
+  give-same : (v : Value) (α : RunEnv) (f : ℕ) (η : List Value) (K : List Frame) (A : List Saved) → IsWord α v
       → (ShiftsOutside (running (val v) α f η K A) → ⊥) → give (inEdition e P) v α f η K A ≡ give P v α f η K A
   give-same v α f η [] A w n = refl
   give-same v α f η (gather (op o) vs [] ∷ K) A w n = operator-same P e α f η K A o vs v w n
@@ -81,7 +81,7 @@ module _ (P : Program) (e : ℕ) where
   pub editions-agree : (s : State) → InWords s → (ShiftsOutside s → ⊥) → next (inEdition e P) s ≡ next P s
   editions-agree (State.value c) w n = refl
   editions-agree (exception x) w n = refl
-  editions-agree (main α) w n = refl
+  editions-agree (calling α a) w n = refl
   editions-agree (returned α c) w n = refl
   editions-agree (running (val v) α f η K A) w n = give-same v α f η K A (w .0) n
   editions-agree (running (eval m) α f η K A) w n = opens-same P e α f η K A (P .look f m)

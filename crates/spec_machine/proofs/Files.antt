@@ -135,7 +135,7 @@ module _ (s : List ℕ) (h : accept.Accepted s) (f : ℕ) (l : f < functions s) 
       (λ e. (reads-child t n (sizes s h f l) i (prior t (last i)) d p (child-at t n (sizes s h f l) i 4 1 0 p e refl) r, reads-child t n (sizes s h f l) i (last i) d p (child-at t n (sizes s h f l) i 4 0 1 p e refl) r))
       (λ e. operands)
       (λ e. tt)
-      (λ u k. tt)
+      (λ u. tt)
     where
       operands : ReadsNodes (programOf s) f (kids t i) d
       operands = each-reads (programOf s) f d (kids t i) (kids-each t i (λ c. Reads (programOf s) f c d) (λ k q. unfold programOf in (reads-child t n (sizes s h f l) i _ d p (child-of t n (sizes s h f l) i k p q) r)))

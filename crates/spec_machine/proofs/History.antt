@@ -5,12 +5,12 @@ use Prim.Native.Nat.{ℕ}
 use Rattle.varset.specs.Sets.{Set}
 use Rattle.spec_machine.specs.Values.{typeV}
 use Rattle.spec_machine.specs.Program.{fn, apply, Program}
-use Rattle.spec_machine.specs.Machine.{saved, State, Rule, Event, quiet, reads, has, lacks, enters, leaves, ends, Step, first, enter, op-value, op-arith, and-first, and-false, and-true, call-none, call-main, assert-true, assert-false, if-true, if-false, leave-main}
+use Rattle.spec_machine.specs.Machine.{saved, State, Rule, Event, arguments, quiet, reads, has, lacks, enters, leaves, ends, Step, first, enter, op-value, op-arith, and-first, and-false, and-true, call-none, call-entry, assert-true, assert-false, if-true, if-false, leave-entry}
 use Rattle.spec_machine.specs.Fit.{held, Proper}
 use Rattle.spec_machine.specs.Run.{carry, ReadsHeld, allHeld, savedHeld}
 use Rattle.spec_machine.proofs.Accepted.{GoodE, Accepted}
 use Rattle.spec_machine.proofs.Holding.{cleared-is, map-last}
-use Rattle.spec_machine.proofs.Moves.{store-is, entered-is}
+use Rattle.spec_machine.proofs.Moves.{store-is, entered-is, entry-known}
 
 module _ {P : Program} (c : Accepted P) where
   -- what was held before, carried by the step's event, is what is held after
@@ -42,10 +42,10 @@ module _ {P : Program} (c : Accepted P) where
   carried (call-none {m} {g} {f} {η} {K} {A} e) o =
       let t : GoodE P f (apply (fn g) []) = rw e at (c .exprs f m (o .frames .0)) in
       ap (λ (d : Set). d ∷ savedHeld (saved f η K ∷ A)) (entered-is P c g [] (t .1) (t .2))
-  carried call-main o = ap (λ (d : Set). d ∷ []) (entered-is P c 0 [] (c .main-takes) (c .main-known))
+  carried (call-entry {o = a} {α = α}) o = ap (λ (d : Set). d ∷ []) (entered-is P c (α .entry) (arguments a) (o .1) (entry-known P c (o .0)))
   carried (Step.return e) o = refl
   carried Step.leave o = refl
-  carried leave-main o = refl
+  carried leave-entry o = refl
   carried Step.value o = refl
 
   read-held : {r : Rule} {x : ℕ} {s t : State} → Step P r (reads x) s t → Proper P s → ReadsHeld (reads x) (allHeld s)

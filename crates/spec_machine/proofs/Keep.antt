@@ -11,13 +11,14 @@ use Rattle.spec_language.specs.Statements.{Statement, While}
 use Rattle.spec_language.specs.Flow.{leaves, returns}
 use Rattle.spec_language.proofs.Flows.{Scope, ok-seq, ok-assign, ok-decl, ok-if, ok-return, ok-assert, ok-expr, while-ok, while-leaves}
 use Rattle.spec_machine.specs.Values.{tBool, Value, nothing, typeV}
-use Rattle.spec_machine.specs.Program.{fn, node, ExprForm, apply, StmtForm, Program, owns, varTypes, typeOfVar, gives}
-use Rattle.spec_machine.specs.Machine.{saved, State, Rule, Event, Step, first, enter, op-value, op-arith, and-first, and-false, and-true, call-none, call-main, assert-true, assert-false, if-true, if-false, leave-main}
+use Rattle.spec_machine.specs.Program.{fn, node, ExprForm, apply, StmtForm, Program, owns, typeL, varTypes, typeOfVar}
+use Rattle.spec_machine.specs.Machine.{saved, State, Rule, Event, arguments, Step, first, enter, op-value, op-arith, and-first, and-false, and-true, call-none, call-entry, assert-true, assert-false, if-true, if-false, leave-entry}
 use Rattle.spec_machine.specs.Fit.{owned, held, Takes, comes, Proper}
 use Rattle.spec_machine.proofs.Accepted.{GoodE, GoodS, Accepted}
+use Rattle.spec_machine.proofs.Given.{expression-gives}
 use Rattle.spec_machine.proofs.Holding.{holds-set, read-type, cleared-is, map-snoc, map-last}
 use Rattle.spec_machine.proofs.Operators.{result-type}
-use Rattle.spec_machine.proofs.Moves.{flows-mono, moves, turns-to, seen, unrolled, passes-on, store-is, enters}
+use Rattle.spec_machine.proofs.Moves.{flows-mono, moves, turns-to, seen, unrolled, passes-on, store-is, enters, entry-known}
 
 -- what two branches share is in each
 in-first : (a b : Set) → Sub (both a b) a
@@ -38,9 +39,9 @@ module _ {P : Program} (c : Accepted P) where
   unfolding leaves returns
   keep (first {m} {f} {h} {n} {ns} {η} {K} e) o =
       let g : GoodE P f (apply h (n ∷ ns)) = rw e at (c .exprs f m (o .frames .0)) in
-      let k : Takes P f (gives P h) K = rw e at (o .frames .2) in
+      let k : Takes P f (typeL P f (apply h (n ∷ ns))) K = rw e at (o .frames .2) in
       let r = c .reads-apply f m h (n ∷ ns) (held η) (o .frames .0) e (o .flows .0) in
-      turns-to o n (g .0 .0) (g .1, g .0 .1, k, g .2) (r .0) (r .1, o .flows .1) (o .returns)
+      turns-to o n (g .0 .0) (g .1, g .0 .1, expression-gives P f h (n ∷ ns) K k, g .2) (r .0) (r .1, o .flows .1) (o .returns)
   keep (Step.next {f} {h} {v} {vs} {n} {ns}) o =
       turns-to o n (o .frames .1 .0) (o .frames .0 ∙ sym (map-snoc typeV vs v _), o .frames .1 .1, o .frames .2, o .frames .3) (o .flows .0 .0)
       (o .flows .0 .1, o .flows .1) (o .returns)
@@ -71,13 +72,14 @@ module _ {P : Program} (c : Accepted P) where
       let w = rw (seen P c f r e) at (o .flows) in
       turns-to o n (g .0) (g .1, g .2, o .frames .1) (ok-assign (held η) x (P .reads f n) .0 (w .0)) (w .1) (rw (seen P c f r e) at (o .returns))
   keep (Step.store {v} {x} {f} {η} {K} {A} {α}) o =
-      passes-on P c α f (set η x v) K A (o .callers) (o .known) (holds-set η (varTypes (P .fun f)) x v (inr (o .frames .0)) (o .holds)) (o .frames .2)
+      passes-on P c α f (set η x v) K A (o .entry) (o .callers) (o .known) (holds-set η (varTypes (P .fun f)) x v (inr (o .frames .0)) (o .holds)) (o .frames .2)
       (rw (← store-is P c o) (o .flows)) (o .returns)
   keep (Step.decl {r} {a} {x} {f} {η} {K} e) o =
       let g : GoodS P f (StmtForm.decl x a) = rw e at (c .stmts f r (o .frames .0)) in
       let w = rw (seen P c f r e) at (o .flows) in
       let s : Statement = P .stmt f a in
       record {
+        entry = o .entry;
         callers = o .callers;
         known = o .known;
         holds = holds-set η (varTypes (P .fun f)) x nothing (inl refl) (o .holds);
@@ -89,7 +91,7 @@ module _ {P : Program} (c : Accepted P) where
       let g : GoodS P f (StmtForm.assert n) = rw e at (c .stmts f r (o .frames .0)) in
       let w = rw (seen P c f r e) at (o .flows) in
       turns-to o n (g .0) (g .1, o .frames .1) (ok-assert (held η) (P .reads f n) .0 (w .0)) (w .1) (rw (seen P c f r e) at (o .returns))
-  keep (assert-true {f} {η} {K} {A} {α}) o = passes-on P c α f η K A (o .callers) (o .known) (o .holds) (o .frames .1) (o .flows) (o .returns)
+  keep (assert-true {f} {η} {K} {A} {α}) o = passes-on P c α f η K A (o .entry) (o .callers) (o .known) (o .holds) (o .frames .1) (o .flows) (o .returns)
   keep assert-false o = tt
   keep (Step.if {r} {a} {b} {n} {f} {η} e) o =
       let g : GoodS P f (StmtForm.if n a b) = rw e at (c .stmts f r (o .frames .0)) in
@@ -117,21 +119,21 @@ module _ {P : Program} (c : Accepted P) where
       let g : GoodS P f (StmtForm.expr n) = rw e at (c .stmts f r (o .frames .0)) in
       let w = rw (seen P c f r e) at (o .flows) in
       turns-to o n g (o .frames .1) (ok-expr (held η) (P .reads f n) .0 (w .0)) (w .1) (rw (seen P c f r e) at (o .returns))
-  keep (Step.discard {v} {f} {η} {K} {A} {α}) o = passes-on P c α f η K A (o .callers) (o .known) (o .holds) (o .frames) (o .flows) (o .returns)
+  keep (Step.discard {v} {f} {η} {K} {A} {α}) o = passes-on P c α f η K A (o .entry) (o .callers) (o .known) (o .holds) (o .frames) (o .flows) (o .returns)
   keep (enter {v} {vs} {g} {f} {η} {K} {A} {α}) o =
-      enters P c α g (vs ++ (v ∷ [])) (saved f η K ∷ A) (o .frames .0 ∙ sym (map-last typeV vs v))
+      enters P c α g (vs ++ (v ∷ [])) (saved f η K ∷ A) (o .frames .0 ∙ sym (map-last typeV vs v)) (o .entry)
       (o .holds, o .frames .2, o .flows .1, o .returns, o .callers, o .known) (o .frames .3)
   keep (call-none {m} {g} {f} {η} {K} {A} {α} e) o =
       let k : Takes P f (P .fun g .result) K = rw e at (o .frames .2) in
       let t : GoodE P f (apply (fn g) []) = rw e at (c .exprs f m (o .frames .0)) in
-      enters P c α g [] (saved f η K ∷ A) (t .1) (o .holds, k, o .flows .1, o .returns, o .callers, o .known) (t .2)
-  keep (call-main {α}) o = enters P c α 0 [] [] (c .main-takes) refl (c .main-known)
+      enters P c α g [] (saved f η K ∷ A) (t .1) (o .entry) (o .holds, k, o .flows .1, o .returns, o .callers, o .known) (t .2)
+  keep (call-entry {o = a} {α = α}) o = enters P c α (α .entry) (arguments a) [] (o .1) (o .0) refl (entry-known P c (o .0))
   keep (Step.return {r} {n} {f} {η} e) o =
       let g : GoodS P f (StmtForm.return n) = rw e at (c .stmts f r (o .frames .0)) in
       let w = rw (seen P c f r e) at (o .flows) in
       turns-to o n (g .0) (g .1, o .frames .1) (ok-return (held η) (P .reads f n) .0 (w .0)) (w .1) refl
   keep Step.leave o =
       let k = o .callers in
-      record { callers = k .4; known = k .5; holds = k .0; frames = rw (o .frames .0) (k .1); flows = k .2; returns = k .3 }
-  keep leave-main o = tt
+      record { entry = o .entry; callers = k .4; known = k .5; holds = k .0; frames = rw (o .frames .0) (k .1); flows = k .2; returns = k .3 }
+  keep leave-entry o = o .entry
   keep Step.value o = tt

@@ -1,18 +1,19 @@
 -- One level of a node of any file: what it is by the node's kind, and how a statement's tree grows from it.
 use mathlib.Core.Path.{_≡_, refl, sym, ap, _∙_}
-use mathlib.Core.Logic.{_⊎_, inl, inr, ⊎-elim}
 use mathlib.Core.Bool.{Bool, true, false}
 use mathlib.Core.List.{List, [], _∷_}
-use Prim.Native.Nat.{ℕ, zero, suc, _-_, _≤_, _<_}
+use Prim.Native.Nat.{ℕ, zero, suc, _-_, _<_}
 use native.Mathlib.Omega.{arith}
 use lib.Dec.{eqb}
-use lib.ListN.{getD}
 use borrow.Author.Tests.{eqb-true, eqb-false}
 use Rattle.varset.specs.Lowest.{pick}
 use Rattle.records.specs.Fields.{kindAt, aAt, bAt}
 use Rattle.records.specs.Children.{arities, arityOf, arityAt, walk, children}
+use Rattle.spec_language.specs.Sorts.{isExpression}
+use Rattle.spec_language.specs.KindLists.{isStatement}
 use Rattle.spec_language.specs.Statements.{Shape, prior, last, shapes, shapeAt, readsOf, Nop, statementIn, statementAt}
 use Rattle.records.proofs.EntryTables.{entry-at}
+use Rattle.spec_language.proofs.KindLists.{expression-past, statement-past}
 use Rattle.spec_language.proofs.Trees.{statement-seq, statement-assign, statement-decl, statement-if, statement-while, statement-return, statement-assert, statement-expr, statement-rest, statement-nop}
 use Rattle.spec_machine.specs.Values.{nothing, int, truth}
 use Rattle.spec_machine.specs.Program.{op, fn, Ref, node, ifOf, seqOf, ExprForm, const, apply, StmtForm, growF}
@@ -37,17 +38,16 @@ module _ (t : List ℕ) (i : ℕ) where
       → (kindAt t i ≡ 4 → P (ExprForm.and (prior t (last i)) (last i)))
       → (kindAt t i ≡ 5 → P (apply (fn (bAt t i)) (kids t i)))
       → (kindAt t i ≡ 15 → P (const nothing))
-      → (6 ≤ kindAt t i → (kindAt t i ≡ 15 → ⊥) → P ExprForm.stray)
+      → (isExpression (kindAt t i) ≡ false → P ExprForm.stray)
       → P (lookAt t i)
-  unfolding lookAt looks
-  by-look P c b v o a f n z = go (eqb (kindAt t i) 15) refl
+  unfolding lookAt looks isExpression
+  by-look P c b v o a f n z =
+      entry-at (λ k l. kindAt t i ≡ k → P l) (looks t i) ExprForm.stray
+      (c, (b, (v, (o, (λ q. rw (and-is q) (a q), (f, (s 6 refl, (s 7 refl, (s 8 refl, (s 9 refl, (s 10 refl, (s 11 refl, (s 12 refl, (s 13 refl, (s 14 refl, (n, tt))))))))))))))))
+      (λ k l. s k (expression-past k l)) (kindAt t i) refl
     where
-      go : (q : Bool) → eqb (kindAt t i) 15 ≡ q → P (pick q (const nothing) (getD (looks t i) (kindAt t i) ExprForm.stray))
-      go true e = n (eqb-true _ _ e)
-      go false e =
-          entry-at (λ k l. kindAt t i ≡ k → P l) (looks t i) ExprForm.stray
-          (c, (b, (v, (o, (λ q. rw (and-is q) (a q), (f, tt))))))
-          (λ k l q. z (rw q l) (eqb-false _ _ e)) (kindAt t i) refl
+      s : (k : ℕ) → isExpression k ≡ false → kindAt t i ≡ k → P ExprForm.stray
+      s k e q = z (rw q e)
 
   -- a property of each kind's statement; node 0 is a nop or no statement
   pub by-form : (P : StmtForm → Type 0)
@@ -60,21 +60,18 @@ module _ (t : List ℕ) (i : ℕ) where
       → (kindAt t i ≡ 12 → 0 < i → P (StmtForm.return (last i)))
       → (kindAt t i ≡ 13 → 0 < i → P (StmtForm.assert (last i)))
       → (kindAt t i ≡ 14 → 0 < i → P (StmtForm.expr (last i)))
-      → ((kindAt t i ≡ 6 → ⊥) → (0 < i → (kindAt t i < 6) ⊎ (15 ≤ kindAt t i)) → P StmtForm.stray)
+      → ((kindAt t i ≡ 6 → ⊥) → (0 < i → isStatement (kindAt t i) ≡ false) → P StmtForm.stray)
       → P (formAt t i)
   by-form P n s a d f w r c e z = first i refl
     where
-      none : (k : ℕ) → k < 6 → kindAt t i ≡ k → P StmtForm.stray
-      none k l q = z (λ p. omega arith) (λ p. inl (omega arith))
-
-      past : (k : ℕ) → 15 ≤ k → kindAt t i ≡ k → P StmtForm.stray
-      past k l q = z (λ p. omega arith) (λ p. inr (omega arith))
+      none : (k : ℕ) → isStatement k ≡ false → (k ≡ 6 → ⊥) → kindAt t i ≡ k → P StmtForm.stray
+      none k e o q = z (λ p. o (sym q ∙ p)) (λ p. rw q e)
 
       table : 0 < i → P (formOf t i (shapeAt t i))
       table p =
           unfold formOf shapeAt shapes in (entry-at (λ k x. kindAt t i ≡ k → P (formOf t i x)) (shapes t i) Shape.stray
-          (none 0 (omega arith), (none 1 (omega arith), (none 2 (omega arith), (none 3 (omega arith), (none 4 (omega arith), (none 5 (omega arith), (n, (λ q. s q p, (λ q. a q p, (λ q. d q p, (λ q. f q p, (λ q. w q p, (λ q. r q p, (λ q. c q p, (λ q. e q p, tt)))))))))))))))
-          past (kindAt t i) refl)
+          (none 0 refl (λ q. omega arith), (none 1 refl (λ q. omega arith), (none 2 refl (λ q. omega arith), (none 3 refl (λ q. omega arith), (none 4 refl (λ q. omega arith), (none 5 refl (λ q. omega arith), (n, (λ q. s q p, (λ q. a q p, (λ q. d q p, (λ q. f q p, (λ q. w q p, (λ q. r q p, (λ q. c q p, (λ q. e q p, (none 15 refl (λ q. omega arith), tt))))))))))))))))
+          (λ k l. none k (statement-past k l) (λ q. omega arith)) (kindAt t i) refl)
 
       zeroth : i ≡ 0 → (b : Bool) → eqb (kindAt t i) 6 ≡ b → P (pick b StmtForm.nop StmtForm.stray)
       zeroth q true k = n (eqb-true _ _ k)
@@ -95,10 +92,10 @@ module _ (t : List ℕ) where
       go true e = sym (statement-nop t c (eqb-true _ _ e))
       go false e = refl
 
-  stray-tree : (i : ℕ) → (0 < i → (kindAt t i < 6) ⊎ (15 ≤ kindAt t i)) → statementAt t i ≡ Nop
+  stray-tree : (i : ℕ) → (0 < i → isStatement (kindAt t i) ≡ false) → statementAt t i ≡ Nop
   unfolding statementAt statementIn
   stray-tree zero h = refl
-  stray-tree (suc i) h = statement-rest t (suc i) (⊎-elim (λ (l : kindAt t (suc i) < 6). inl (omega arith)) (λ (l : 15 ≤ kindAt t (suc i)). inr l) (h (omega arith)))
+  stray-tree (suc i) h = statement-rest t (suc i) (h (omega arith))
 
   -- the tree at a node grows from its level
   node-tree : (i : ℕ) → statementAt t i ≡ growF (readsOf t) (stmtAt t) (formAt t i)

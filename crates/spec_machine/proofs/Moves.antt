@@ -8,10 +8,10 @@ use Rattle.varset.specs.Sets.{Set, with, both, either, Sub}
 use Rattle.records.proofs.Bools.{both-mono, either-mono}
 use Rattle.spec_language.specs.Flow.{leaves, returns}
 use Rattle.spec_language.proofs.Flows.{reads-mono, ok-nop, ok-mono, leaves-mono, Unrolled}
-use Rattle.spec_machine.specs.Values.{Ty, Value, typeV}
+use Rattle.spec_machine.specs.Values.{Ty, tInt, Value, typeV}
 use Rattle.spec_machine.specs.Program.{Ref, ifOf, seqOf, growF, ExprForm, const, apply, StmtForm, Program, typeN, varTypes}
 use Rattle.spec_machine.specs.Machine.{Frame, gather, and, wait, branch, check, Control, val, exec, Saved, RunEnv, reach, reachL, entered}
-use Rattle.spec_machine.specs.Fit.{IsExpr, HasFunction, Reads, ReadsNodes, AllHoldTyped, isSome, held, TakesNone, Takes, ControlOver, Flows, FlowsFrom, comes, comesFrom, Callers, Running}
+use Rattle.spec_machine.specs.Fit.{IsExpr, HasFunction, Reads, ReadsNodes, AllHoldTyped, isSome, held, TakesNone, Takes, ControlOver, Flows, FlowsFrom, comes, comesFrom, Entry, Callers, Running}
 use Rattle.spec_machine.proofs.Accepted.{paramSet, Accepted}
 use Rattle.spec_machine.proofs.Holding.{holds-length, real-at, real-some, real-left, stored-is, enter-holds, entered-at}
 
@@ -85,7 +85,7 @@ module _ (P : Program) (f n : ℕ) (K : List Frame) where
 
 module _ {P : Program} {c : Control} {α : RunEnv} {f : ℕ} {η : List Value} {K : List Frame} {A : List Saved} (o : Running P c α f η K A) where
   pub moves : {c′ : Control} {K′ : List Frame} → ControlOver P f c′ K′ → FlowsFrom P f c′ K′ (held η) → comesFrom P f c′ K′ ≡ true → Running P c′ α f η K′ A
-  moves g w r = record { callers = o .callers; known = o .known; holds = o .holds; frames = g; flows = w; returns = r }
+  moves g w r = record { entry = o .entry; callers = o .callers; known = o .known; holds = o .holds; frames = g; flows = w; returns = r }
 
   -- an expression is reached
   pub turns-to : (n : ℕ) {K′ : List Frame} → IsExpr P f n → Takes P f (typeN P f n) K′ → Reads P f n (held η) → Flows P f K′ (held η) → comes P f K′ ≡ true
@@ -106,12 +106,12 @@ module _ (P : Program) (c : Accepted P) where
       seen f (ifOf w) (q .1) ∙ rw (seen f (seqOf w) (q .2), seen f Ref.nop (c .see-nop f), ← q .0, seen f r e)
 
   -- nop over the frames that are left
-  pub passes-on : (α : RunEnv) (f : ℕ) (η : List Value) (K : List Frame) (A : List Saved) → Callers P f A → HasFunction P f → AllHoldTyped η (varTypes (P .fun f))
+  pub passes-on : (α : RunEnv) (f : ℕ) (η : List Value) (K : List Frame) (A : List Saved) → Entry P (α .entry) → Callers P (α .entry) f A → HasFunction P f → AllHoldTyped η (varTypes (P .fun f))
       → TakesNone P f K → Flows P f K (held η) → comes P f K ≡ true → Running P (exec Ref.nop) α f η K A
   unfolding leaves returns
-  passes-on α f η K A k y h t w r =
+  passes-on α f η K A n k y h t w r =
       let q = seen f Ref.nop (c .see-nop f) in
-      record { callers = k; known = y; holds = h; frames = ((refl, rw (c .see-nop f)), t); flows = rw q (ok-nop (held η), w); returns = rw q r }
+      record { entry = n; callers = k; known = y; holds = h; frames = ((refl, rw (c .see-nop f)), t); flows = rw q (ok-nop (held η), w); returns = rw q r }
 
   -- the variables that hold values after a store
   pub store-is : {α : RunEnv} {f x : ℕ} {v : Value} {η : List Value} {K : List Frame} {A : List Saved} → Running P (val v) α f η (Frame.store x ∷ K) A → with (held η) x ≡ held (set η x v)
@@ -124,11 +124,19 @@ module _ (P : Program) (c : Accepted P) where
   pub entered-is : (g : ℕ) (vs : List Value) → P .fun g .params ≡ map typeV vs → HasFunction P g → paramSet (P .fun g) ≡ held (entered (P .fun g) vs)
   entered-is g vs e y = fun-ext λ x. rw e (entered-at vs (P .fun g .locals) (rw e at (real-left (P .fun g .params) (P .fun g .locals) (c .real g y))) x)
 
+  -- the function that a run was started with is one of the program, and gives an int
+  pub entry-known : {e : ℕ} → Entry P e → HasFunction P e
+  entry-known n = rw n (c .main-known)
+
+  pub entry-gives : {e : ℕ} → Entry P e → P .fun e .result ≡ tInt
+  entry-gives n = rw n (c .main-gives)
+
   -- a function entered over its callers
-  pub enters : (α : RunEnv) (g : ℕ) (vs : List Value) (A : List Saved) → P .fun g .params ≡ map typeV vs → Callers P g A → HasFunction P g
+  pub enters : (α : RunEnv) (g : ℕ) (vs : List Value) (A : List Saved) → P .fun g .params ≡ map typeV vs → Entry P (α .entry) → Callers P (α .entry) g A → HasFunction P g
       → Running P (exec (P .fun g .body)) α g (entered (P .fun g) vs) [] A
-  enters α g vs A e k y =
+  enters α g vs A e n k y =
       record {
+        entry = n;
         callers = k;
         known = y;
         holds = rw e (enter-holds vs (P .fun g .locals));

@@ -1,24 +1,24 @@
 -- The nodes of an accepted file's program: the sort and the type of each, and of its children.
 use mathlib.Core.Path.{_≡_, refl, sym, ap, _∙_}
-use mathlib.Core.Logic.{_⊎_, inl, inr, ⊎-elim}
+use mathlib.Core.Logic.{⊎-elim}
 use mathlib.Core.Bool.{Bool, true, false}
 use mathlib.Core.List.{List}
-use Prim.Native.Nat.{ℕ, _+_, _-_, _≤_, _<_}
+use Prim.Native.Nat.{ℕ, _+_, _-_, _<_}
 use native.Mathlib.Omega.{arith}
-use lib.Dec.{eqb, ltb}
-use lib.ListN.{getD, List·getD-eq-default}
-use borrow.Author.Tests.{eqb-true, eqb-false, ltb-true, ltb-false, lt-ltb, le-ltb, ne-eqb}
+use lib.Dec.{eqb}
+use lib.ListN.{getD}
+use borrow.Author.Tests.{eqb-false, lt-ltb}
 use Rattle.varset.specs.Lowest.{pick}
 use Rattle.records.specs.Fields.{functions, paramsOf, varsOf, countOf, kindAt, aAt, bAt}
 use Rattle.records.specs.Parts.{partOf}
-use Rattle.records.specs.Children.{arities, arityOf, arityAt, children}
-use Rattle.records.proofs.Bools.{by, clash}
-use Rattle.records.proofs.Ranges.{range-is}
+use Rattle.records.specs.Children.{arityOf, arityAt, children}
+use Rattle.records.proofs.Bools.{clash}
 use Rattle.spec_language.specs.Sorts.{isExpression, wantsExpression}
 use Rattle.spec_language.specs.Statements.{last}
 use Rattle.spec_language.specs.Types as types
-use Rattle.spec_language.specs.Nodes.{fields, fieldsOk}
+use Rattle.spec_language.specs.Nodes.{fieldsOk}
 use Rattle.spec_language.proofs.Facts.{node-fields, variable-fields}
+use Rattle.spec_language.proofs.KindLists.{has-child, kind-sort}
 use Rattle.spec_language.proofs.Accept.{Accepted, function, nodes-known}
 use Rattle.spec_language.proofs.Typings.{nth, fields-at, int-type, bool-type, variable-type, operator-gives, and-gives, call-gives, nothing-type}
 use Rattle.spec_language.proofs.Positions.{sizes, child-below, child-sort}
@@ -30,23 +30,6 @@ use Rattle.spec_machine.specs.File.{lookAt, refAt, formAt, seeAt, typesF
 use Rattle.spec_machine.proofs.Levels.{by-look, by-form}
 use Rattle.spec_machine.proofs.Operands.{types-length, types-at, types-append}
 
--- kinds 7 to 14 have children
-children-some : (kind a : ℕ) → 7 ≤ kind → kind < 15 → 0 < arityOf kind a
-unfolding arityOf arities
-children-some kind a l u =
-    let e = range-is (λ k. pick (ltb 0 (arityOf k a)) 1 0) 1 7 8 tt kind l (omega arith) in
-    by (ltb 0 (arityOf kind a)) (λ q. ltb-true _ _ q) (λ q. let z : _≡_ {A = ℕ} 1 0 = rw q at e in absurd (omega arith))
-
--- kinds from 6 on but 15 are no expressions
-not-expression : (kind : ℕ) → 6 ≤ kind → (kind ≡ 15 → ⊥) → isExpression kind ≡ false
-unfolding isExpression
-not-expression kind l n = rw (le-ltb kind 6 l, ne-eqb kind 15 n)
-
-expression : (kind : ℕ) → (kind < 6) ⊎ (kind ≡ 15) → isExpression kind ≡ true
-unfolding isExpression
-expression kind (inl l) = rw (lt-ltb kind 6 l)
-expression kind (inr e) = rw e
-
 -- ---- of any file
 module _ (t : List ℕ) (i : ℕ) where
   -- a look is an expression's exactly where the kind is
@@ -54,7 +37,7 @@ module _ (t : List ℕ) (i : ℕ) where
   unfolding isExpression
   look-sort =
       by-look t i (λ x. isExpr x ≡ isExpression (kindAt t i)) (λ e. rw e) (λ e. rw e) (λ e. rw e) (λ e. rw e) (λ e. rw e) (λ e. rw e) (λ e. rw e)
-      (λ l n. sym (not-expression (kindAt t i) l n))
+      sym
 
   -- only kind 6 is nop
   not-nop : (kindAt t i ≡ 6 → ⊥) → isNop (formAt t i) ≡ false
@@ -62,26 +45,15 @@ module _ (t : List ℕ) (i : ℕ) where
       by-form t i (λ x. isNop x ≡ false) (λ e. absurd (k e))
       (λ e p. refl) (λ e p. refl) (λ e p. refl) (λ e p. refl) (λ e p. refl) (λ e p. refl) (λ e p. refl) (λ e p. refl) (λ e p. refl)
 
-  -- the other kinds below 16 are statements
-  form-sort : isExpression (kindAt t i) ≡ false → kindAt t i < 16 → (0 < arityAt t i → 0 < i) → isStmt (formAt t i) ≡ true
+  -- a kind that is no expression is a statement, where question 7 passes its fields
+  form-sort : (s : List ℕ) (f a b : ℕ) → isExpression (kindAt t i) ≡ false → fieldsOk s f (kindAt t i) a b ≡ true → (0 < arityAt t i → 0 < i) → isStmt (formAt t i) ≡ true
   unfolding arityAt
-  form-sort q u c =
+  form-sort s f a b q u c =
       by-form t i (λ x. isStmt x ≡ true) (λ e. refl)
       (λ e p. refl) (λ e p. refl) (λ e p. refl) (λ e p. refl) (λ e p. refl) (λ e p. refl) (λ e p. refl) (λ e p. refl)
-      (λ n z. let l : 6 ≤ kindAt t i = low in let m : kindAt t i < 15 = high in
-      absurd (⊎-elim (λ (p : kindAt t i < 6). omega arith) (λ (p : 15 ≤ kindAt t i). omega arith) (z (c (children-some (kindAt t i) (aAt t i) (omega arith) m)))))
-    where
-      low : 6 ≤ kindAt t i
-      low = by (ltb (kindAt t i) 6) (λ e. clash (isExpression (kindAt t i)) (expression _ (inl (ltb-true _ _ e))) q) (λ e. ltb-false _ _ e)
-
-      high : kindAt t i < 15
-      high = by (eqb (kindAt t i) 15) (λ e. clash (isExpression (kindAt t i)) (expression _ (inr (eqb-true _ _ e))) q) (λ e. let n : kindAt t i ≡ 15 → ⊥ = eqb-false _ _ e in omega arith)
+      (λ n z. ⊎-elim (λ e. clash _ e q) (⊎-elim (λ e. absurd (n e)) (λ e. clash _ e (z (c (has-child (aAt t i) (kindAt t i) e))))) (kind-sort s f a b (kindAt t i) u))
 
 -- ---- of an accepted file
-fields-small : (s : List ℕ) (f kind a b : ℕ) → fieldsOk s f kind a b ≡ true → kind < 16
-unfolding fieldsOk fields
-fields-small s f kind a b e = by (ltb kind 16) (λ q. ltb-true _ _ q) (λ q. let l = ltb-false kind 16 q in clash false (sym (List·getD-eq-default (fields s f a b) false {n = kind} l) ∙ e) refl)
-
 module _ (s : List ℕ) (h : Accepted s) (f : ℕ) (l : f < functions s) where
   abbrev t : List ℕ
   t = partOf s f
@@ -122,7 +94,7 @@ module _ (s : List ℕ) (h : Accepted s) (f : ℕ) (l : f < functions s) where
       (λ e. sym (and-gives s f t n c e))
       (λ e. given e)
       (λ e. sym (nothing-type s f t n c e))
-      (λ u k. clash (isExpression (kindAt t c)) q (not-expression _ u k))
+      (clash (isExpression (kindAt t c)) q)
     where
       given : kindAt t c ≡ 5 → funOf s (bAt t c) .result ≡ types.typeAt s f t n c
       given e = unfold funOf in (sym (call-gives s f t n c e))
@@ -136,7 +108,7 @@ module _ (s : List ℕ) (h : Accepted s) (f : ℕ) (l : f < functions s) where
       go true e = (refl, refl)
       go false e = (
         rw (not-nop t c (eqb-false _ _ e), lt-ltb c n p),
-        form-sort t c q (fields-small s f (kindAt t c) (aAt t c) (bAt t c) (node-fields s f t c (h .seven f c l p))) (nodes-known s h f l .child c p),
+        form-sort t c s f (aAt t c) (bAt t c) q (node-fields s f t c (h .seven f c l p)) (nodes-known s h f l .child c p),
       )
 
   -- the child of node i, of a known kind, that has m before it and j after it

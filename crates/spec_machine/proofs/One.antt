@@ -7,7 +7,7 @@ use Prim.Native.Nat.{ℕ}
 use lib.ListN.{length}
 use Rattle.spec_machine.specs.Values.{Value, nothing, int, truth, result}
 use Rattle.spec_machine.specs.Program.{op, fn, ExprForm, const, apply, StmtForm, Program}
-use Rattle.spec_machine.specs.Machine.{Frame, gather, and, wait, branch, check, val, eval, exec, State, exception, main, returned, running, Rule, Event, quiet, reads, has, lacks, enters, leaves, ends, Step, first, enter, op-value, op-arith, and-first, and-false, and-true, call-none, call-main, assert-true, assert-false, if-true, if-false, leave-main}
+use Rattle.spec_machine.specs.Machine.{Frame, gather, and, wait, branch, check, val, eval, exec, State, exception, calling, returned, running, Rule, Event, quiet, reads, has, lacks, enters, leaves, ends, Step, first, enter, op-value, op-arith, and-first, and-false, and-true, call-none, call-entry, assert-true, assert-false, if-true, if-false, leave-entry}
 use Rattle.spec_machine.specs.Next.{goes, next}
 
 -- ---- the event of the rule that applies at a state
@@ -77,7 +77,7 @@ executing StmtForm.stray = quiet
 abbrev eventOf : Program → State → Event
 eventOf P (State.value c) = quiet
 eventOf P (exception x) = quiet
-eventOf P (main α) = entering P 0
+eventOf P (calling α o) = entering P (α .entry)
 eventOf P (returned α c) = ends
 eventOf P (running (val v) α f η K A) = giving P v K
 eventOf P (running (eval n) α f η K A) = opening P (P .look f n)
@@ -111,10 +111,10 @@ goes-on (Step.expr e) = (rw e, rw e)
 goes-on Step.discard = (refl, refl)
 goes-on enter = (refl, refl)
 goes-on (call-none e) = (rw e, rw e)
-goes-on call-main = (refl, refl)
+goes-on call-entry = (refl, refl)
 goes-on (Step.return e) = (rw e, rw e)
 goes-on Step.leave = (refl, refl)
-goes-on leave-main = (refl, refl)
+goes-on leave-entry = (refl, refl)
 goes-on Step.value = (refl, refl)
 
 pub sound : {P : Program} {r : Rule} {v : Event} {s t : State} → Step P r v s t → next P s ≡ goes r t

@@ -12,6 +12,7 @@ use Rattle.arith.specs.Operators.{addOf, subOf, mulOf, quotOf, remOf, shlOf, sh
 use Rattle.arith.specs.declared.Applied.{Applied}
 use Rattle.arith.specs.declared.Applied.the-variants.{Int, Truth, Arith}
 use Rattle.spec_machine.specs.Values.{Value, int, truth, tInt, tBool, typeV, resultValue, result}
+use Rattle.spec_machine.specs.Machine.{RunEnv}
 use Rattle.spec_machine.specs.Fit.{IsWord}
 use Rattle.records.proofs.EntryTables.{each-at}
 
@@ -43,14 +44,14 @@ applied-type e o a b =
     (λ o. tt)
     o
 
-given-word : (r : Applied) (v : Value) → resultValue r ≡ some v → ResultWord r → IsWord v
-given-word (Int c) v e h =
+given-word : (α : RunEnv) (r : Applied) (v : Value) → resultValue r ≡ some v → ResultWord r → IsWord α v
+given-word α (Int c) v e h =
     let q : int c ≡ v = cc in
     rw (sym q) h
-given-word (Truth t) v e h =
+given-word α (Truth t) v e h =
     let q : truth t ≡ v = cc in
     rw (sym q) tt
-given-word Arith v e h =
+given-word α Arith v e h =
     let z : _≡_ {A = ℕ} 0 1 = cc in
     absurd (omega arith)
 
@@ -66,9 +67,9 @@ given-type o Arith v e h =
     absurd (omega arith)
 
 -- of two words an operator gives a word, or a truth
-pub result-word : (e o a b : ℕ) (v : Value) → a < 2 ^ 32 → b < 2 ^ 32 → result e o a b ≡ some v → IsWord v
+pub result-word : (α : RunEnv) (e o a b : ℕ) (v : Value) → a < 2 ^ 32 → b < 2 ^ 32 → result e o a b ≡ some v → IsWord α v
 unfolding result
-result-word e o a b v h k q = given-word (applied e o a b) v q (applied-word e o a b h k)
+result-word α e o a b v h k q = given-word α (applied e o a b) v q (applied-word e o a b h k)
 
 -- a result is an int below operator 10, and a truth from there
 pub result-type : (e o a b : ℕ) (v : Value) → result e o a b ≡ some v → typeV v ≡ pick (ltb o 10) tInt tBool

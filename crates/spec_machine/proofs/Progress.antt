@@ -9,13 +9,13 @@ use native.Mathlib.Omega.{arith}
 use Rattle.spec_language.specs.Flow.{returns}
 use Rattle.spec_machine.specs.Values.{Ty, tInt, tBool, Value, nothing, int, truth, typeV, result}
 use Rattle.spec_machine.specs.Program.{op, fn, Ref, ExprForm, const, apply, StmtForm, Program}
-use Rattle.spec_machine.specs.Machine.{Frame, gather, and, wait, branch, check, val, eval, exec, Saved, saved, RunEnv, State, exception, main, returned, running, Rule, Event, Step, first, enter, op-value, op-arith, and-first, and-false, and-true, call-none, call-main, assert-true, assert-false, if-true, if-false, leave-main}
+use Rattle.spec_machine.specs.Machine.{Frame, gather, and, wait, branch, check, val, eval, exec, Saved, saved, RunEnv, State, exception, calling, returned, running, Rule, Event, Step, first, enter, op-value, op-arith, and-first, and-false, and-true, call-none, call-entry, assert-true, assert-false, if-true, if-false, leave-entry, mainCall}
 use Rattle.spec_machine.specs.Next.{goes, next}
 use Rattle.spec_machine.specs.Fit.{Running, Proper, Fit}
 use Rattle.spec_machine.specs.Run.{Going}
 use Rattle.spec_machine.specs.Applies.{Applies, One}
 use Rattle.spec_machine.proofs.Accepted.{GoodE, Accepted}
-use Rattle.spec_machine.proofs.Moves.{seen}
+use Rattle.spec_machine.proofs.Moves.{seen, entry-gives}
 use Rattle.spec_machine.proofs.One.{sound, one-rule}
 
 by-step : {P : Program} {s t : State} {r : Rule} {v : Event} → Step P r v s t → Applies P s
@@ -70,7 +70,7 @@ module _ {P : Program} (c : Accepted P) (α : RunEnv) (f : ℕ) (η : List Value
   gives-on v (Frame.store x ∷ K) A o = by-step Step.store
   gives-on v (branch a b ∷ K) A o = on-truth (λ u. Applies P (running (val u) α f η (branch a b ∷ K) A)) (by-step if-true) (by-step if-false) v (o .frames .0)
   gives-on v (Frame.leave ∷ K) [] o =
-      on-int (λ u. Applies P (running (val u) α f η (Frame.leave ∷ K) [])) (λ n. by-step leave-main) v (o .frames .0 ∙ rw (o .callers) (c .main-gives))
+      on-int (λ u. Applies P (running (val u) α f η (Frame.leave ∷ K) [])) (λ n. by-step leave-entry) v (o .frames .0 ∙ rw (o .callers) (entry-gives P c (o .entry)))
   gives-on v (Frame.leave ∷ K) (saved g θ L ∷ A) o = by-step Step.leave
   gives-on v (check ∷ K) A o = on-truth (λ u. Applies P (running (val u) α f η (check ∷ K) A)) (by-step assert-true) (by-step assert-false) v (o .frames .0)
   gives-on v (Frame.discard ∷ K) A o = by-step Step.discard
@@ -122,7 +122,7 @@ module _ {P : Program} (c : Accepted P) (α : RunEnv) (f : ℕ) (η : List Value
 next-going : (P : Program) (s t : State) (r : Rule) → next P s ≡ goes r t → Going s
 next-going P (State.value k) t r e = let z : _≡_ {A = ℕ} 0 1 = cc in absurd (omega arith)
 next-going P (exception x) t r e = let z : _≡_ {A = ℕ} 0 1 = cc in absurd (omega arith)
-next-going P (main α) t r e = tt
+next-going P (calling α o) t r e = tt
 next-going P (returned α k) t r e = tt
 next-going P (running k α f η K A) t r e = tt
 
@@ -130,14 +130,14 @@ next-going P (running k α f η K A) t r e = tt
 
 module _ {P : Program} where
   -- the start is fit
-  pub start-fit : {α : RunEnv} → Fit P (main α)
-  start-fit = record { words = tt; within = tt; proper = tt }
+  pub start-fit : Accepted P → Fit P mainCall
+  start-fit c = record { words = tt; within = tt; proper = (refl, c .main-takes) }
 
   -- a state that is not final has a rule
   pub progress : Accepted P → (s : State) → Proper P s → Going s → Applies P s
   progress c (State.value k) o g = absurd g
   progress c (exception x) o g = absurd g
-  progress c (main α) o g = by-step call-main
+  progress c (calling α a) o g = by-step call-entry
   progress c (returned α k) o g = by-step Step.value
   progress c (running (val v) α f η K A) o g = gives-on c α f η v K A o
   progress c (running (eval n) α f η K A) o g = opens-on c α f η n K A o

@@ -7,7 +7,7 @@ use Rattle.varset.specs.Lowest.{pick}
 use Rattle.varset.specs.Sets.{Set}
 use Rattle.records.proofs.Bools.{by, clash}
 use Rattle.spec_machine.specs.Program.{Program}
-use Rattle.spec_machine.specs.Machine.{Exception, State, exception, main, returned, running, Rule, Event, Step}
+use Rattle.spec_machine.specs.Machine.{Exception, State, exception, calling, returned, running, Rule, Event, Step}
 use Rattle.spec_machine.specs.Next.{Move, next}
 use Rattle.spec_machine.specs.Fit.{Fit}
 use Rattle.spec_machine.specs.Run.{carry, allHeld, Outcome, raised, Spent, Full, Going, RunsTo, ended, failed, spent, full, withinLimits, Ran, counted, stopped, onward, runOf}
@@ -30,16 +30,16 @@ pub record Good (P : Program) (s : State) (h : List Set) (a : ℕ) (r : Ran) : T
 good-stop : (P : Program) (s : State) (h : List Set) → Fit P s → h ≡ allHeld s → Good P s h 0 (stopped s)
 good-stop P (State.value c) h f e = record { history = h; runs = ended; fit = f; same = e }
 good-stop P (exception x) h f e = record { history = h; runs = failed; fit = f; same = e }
-good-stop P (main α) h f e = record { history = h; runs = spent tt; fit = f; same = e }
+good-stop P (calling α o) h f e = record { history = h; runs = spent tt; fit = f; same = e }
 good-stop P (returned α c) h f e = record { history = h; runs = spent tt; fit = f; same = e }
 good-stop P (running c α g η K A) h f e = record { history = h; runs = spent tt; fit = f; same = e }
 
 -- where a step passes the limits
-abbrev stands : State → Ran
+abbrev pub stands : State → Ran
 stands s = record { outcome = Full; steps = 0; state = s }
 
 -- the run's next step
-run-step : (P : Program) (a : ℕ) (s t : State) (r : Rule) → next P s ≡ Move.goes r t → runOf P (suc a) s ≡ pick (withinLimits t) (counted (runOf P a t)) (stands s)
+pub run-step : (P : Program) (a : ℕ) (s t : State) (r : Rule) → next P s ≡ Move.goes r t → runOf P (suc a) s ≡ pick (withinLimits t) (counted (runOf P a t)) (stands s)
 unfolding runOf
 run-step P a s t r e = ap (λ (m : Move). onward s m (λ u. runOf P a u)) e
 
@@ -63,7 +63,7 @@ module _ {P : Program} (c : Accepted P) (constants : ConstWords P) where
   ran zero s h f e = unfold runOf in good-stop P s h f e
   ran (suc a) (State.value k) h f e = unfold runOf in record { history = h; runs = ended; fit = f; same = e }
   ran (suc a) (exception x) h f e = unfold runOf in record { history = h; runs = failed; fit = f; same = e }
-  ran (suc a) (main α) h f e = let p = progress c (main α) (f .proper) tt in on-step a h (p .step) f e (ran a (p .state))
+  ran (suc a) (calling α o) h f e = let p = progress c (calling α o) (f .proper) tt in on-step a h (p .step) f e (ran a (p .state))
   ran (suc a) (returned α k) h f e = let p = progress c (returned α k) (f .proper) tt in on-step a h (p .step) f e (ran a (p .state))
   ran (suc a) (running k α g η K A) h f e = let p = progress c (running k α g η K A) (f .proper) tt in on-step a h (p .step) f e (ran a (p .state))
 
@@ -85,7 +85,7 @@ end-spent : (P : Program) (s : State) → Going s → runOf P 0 s ≡ Report Spe
 unfolding runOf
 end-spent P (State.value c) g = absurd g
 end-spent P (exception x) g = absurd g
-end-spent P (main α) g = refl
+end-spent P (calling α o) g = refl
 end-spent P (returned α c) g = refl
 end-spent P (running c α f η K A) g = refl
 

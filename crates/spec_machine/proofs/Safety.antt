@@ -4,7 +4,7 @@ use mathlib.Core.List.{List}
 use Prim.Native.Nat.{ℕ, _<_}
 use lib.ListN.{getD}
 use Rattle.spec_language.specs.Check.{accepted, checkOf}
-use Rattle.spec_machine.specs.Machine.{State, main, emptyEnv, Rule, Event, Step}
+use Rattle.spec_machine.specs.Machine.{State, mainCall, Rule, Event, Step}
 use Rattle.spec_machine.specs.Fit.{WithinLimits, Fit}
 use Rattle.spec_machine.specs.Run.{carry, ReadsHeld, allHeld, Going, runOf}
 use Rattle.spec_machine.specs.File.{programOf}
@@ -21,8 +21,8 @@ use Rattle.spec_machine.proofs.Runs.{Good, ran}
 -- a file is a list of bytes
 module _ (s : List ℕ) (bytes : (i : ℕ) → getD s i 0 < 256) (passed : checkOf s ≡ accepted) where
   -- the start is fit
-  pub starts-fit : Fit (programOf s) (main emptyEnv)
-  starts-fit = start-fit
+  pub starts-fit : Fit (programOf s) mainCall
+  starts-fit = start-fit (accepted-program s passed)
 
   -- "a final outcome or exactly one rule applies", within the limits or past them
   pub one-applies : (σ : State) → Fit (programOf s) σ → Going σ → One (programOf s) σ

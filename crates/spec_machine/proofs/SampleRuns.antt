@@ -24,7 +24,7 @@ use Rattle.arith.specs.Operators as operators
 use Rattle.arith.proofs.Samples.{minus, least, greatest}
 use Rattle.spec_machine.specs.File.{backwards, kids, andForm, looks, lookAt, refAt, formOf, formAt, ifForm, seqForm, seeAt, unrolled, looped, stmtAt, typesFrom, funOf, programOf}
 use Rattle.spec_machine.specs.Values.{nothing, truth, result}
-use Rattle.spec_machine.specs.Machine.{arith, Frame, eval, saved, main, emptyEnv, State, running}
+use Rattle.spec_machine.specs.Machine.{arith, Frame, eval, saved, mainCall, emptyEnv, State, running}
 use Rattle.spec_machine.specs.Run.{Outcome, raised, Ran, runOf, lookUp}
 use Rattle.spec_machine.proofs.SampleFiles.{sample}
 
@@ -77,7 +77,7 @@ abbrev expected : Row → Report
 expected (row s a o k) = report o k
 
 abbrev ran : Row → Report
-ran (row s a o k) = reported (runOf (programOf s) a (main emptyEnv))
+ran (row s a o k) = reported (runOf (programOf s) a mainCall)
 
 -- the runs report what their rows say
 abbrev Right : List Row → Type 0
@@ -112,7 +112,7 @@ record Runs : Type 0 where
       ∷ given 1 5 (pos 1) (pos 31) least ∷ refuses 1 5 (pos 1) (pos 32) ∷ refuses 1 5 (pos 1) greatest
       ∷ refuses 1 6 (minus 8) least ∷ refuses 1 6 (minus 8) (minus 1) ∷ given 1 6 (minus 8) (pos 0) (minus 8)
       ∷ given 1 6 (minus 8) (pos 31) (minus 1) ∷ refuses 1 6 (minus 8) (pos 32) ∷ refuses 1 6 (minus 8) greatest ∷ [])
-  stands : map (λ a. runOf (programOf endless) a (main emptyEnv) .state) (28 ∷ 29 ∷ 10000 ∷ []) ≡ replicate 3 deepest
+  stands : map (λ a. runOf (programOf endless) a mainCall .state) (28 ∷ 29 ∷ 10000 ∷ []) ≡ replicate 3 deepest
 
 -- all runs
 runs : Runs
@@ -130,7 +130,7 @@ runs =
     }
 
 -- a variable keeps its value after its decl is over, until the decl runs again
-declared-again : (lookUp (runOf (programOf again) 42 (main emptyEnv) .state) 1 ≡ some (truth true))
-    × (lookUp (runOf (programOf again) 43 (main emptyEnv) .state) 1 ≡ some nothing)
+declared-again : (lookUp (runOf (programOf again) 42 mainCall .state) 1 ≡ some (truth true))
+    × (lookUp (runOf (programOf again) 43 mainCall .state) 1 ≡ some nothing)
 unfolding lowest has none with without both either less below u16At u32At markAt functions nodes editionOf resultOf paramsOf varsOf maskOf countOf kindAt aAt bAt sizeAt sumOf startOf partOf firstOf shift orElse firstIn unless arities arityOf arityAt walk children prior last shapes shapeAt readsFrom readsOf grow statementIn statementAt declares leaves missing lacks returns declaresAt declCount declOf under usesVariable paramType varType operatorType typesOf typeAt condition wantsOf wantAt suits agree ints.int ints.wrap operators.addOf operators.subOf operators.mulOf operators.quotOf operators.remOf operators.shlOf operators.shrOf operators.andOf operators.orOf operators.xorOf operators.ltOf operators.leOf operators.gtOf operators.geOf operators.eqOf operators.neOf operators.noQuotient operators.divided operators.noShift operators.shifted operators.results operators.applied backwards kids andForm looks lookAt refAt formOf formAt ifForm seqForm seeAt unrolled looped stmtAt typesFrom funOf programOf result runOf
 declared-again = (refl, refl)

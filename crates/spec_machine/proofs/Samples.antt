@@ -2,6 +2,7 @@
 use mathlib.Core.Path.{_≡_, refl}
 use mathlib.Core.Bool.{Bool, true, false}
 use mathlib.Core.List.{List, [], _∷_, _++_, map}
+use mathlib.Core.Option as option
 use Prim.Native.Nat.{ℕ}
 use lib.ListN.{replicate}
 use Rattle.varset.specs.Sets.{none, with, without, both, either, less, below}
@@ -16,7 +17,7 @@ use Rattle.spec_language.specs.Types.{paramType, varType}
 use Rattle.spec_machine.specs.File.{looks, lookAt, formOf, formAt, ifForm, seqForm, seeAt, unrolled, looped, stmtAt, typesFrom, funOf, programOf}
 use Rattle.spec_machine.specs.Values.{Value, nothing, int, truth}
 use Rattle.spec_machine.specs.Program.{op, fn, Ref, ifOf, seqOf}
-use Rattle.spec_machine.specs.Machine.{arith, abort, Frame, gather, and, wait, branch, check, Control, val, eval, exec, saved, emptyEnv, State, exception, main, returned, running}
+use Rattle.spec_machine.specs.Machine.{arith, abort, Frame, gather, and, wait, branch, check, Control, val, eval, exec, saved, emptyEnv, State, exception, calling, mainCall, returned, running}
 use Rattle.spec_machine.specs.Test.{fit}
 use Rattle.spec_machine.proofs.SampleFiles.{sample, branches, stale}
 
@@ -86,7 +87,9 @@ nested callers nops = running (exec Ref.nop) emptyEnv 0 empty (replicate nops (w
 abbrev ends : List Row
 ends =
     fits (State.value 0) ∷ fits (State.value 4294967295) ∷ unfit (State.value 4294967296) ∷ fits (exception arith) ∷ fits (exception abort) ∷
-    fits (main emptyEnv) ∷ fits (returned emptyEnv 4294967295) ∷ unfit (returned emptyEnv 4294967296) ∷
+    fits mainCall ∷ fits (returned emptyEnv 4294967295) ∷ unfit (returned emptyEnv 4294967296) ∷
+    -- main takes no argument, and a run is started with main
+    unfit (calling emptyEnv (option.some 3)) ∷ unfit (calling (record { entry = 1 }) option.none) ∷ unfit (returned (record { entry = 2 }) 4) ∷ unfit (running (runs 3) (record { entry = 2 }) 2 (int 5 ∷ []) [] []) ∷
     -- a value or an expression over no frame
     unfit (main-at (val (int 5)) empty []) ∷ unfit (main-at (val (truth true)) empty []) ∷ unfit (main-at (val nothing) empty []) ∷ unfit (main-at (eval 20) ready []) ∷
     []

@@ -8,8 +8,8 @@ use Rattle.records.proofs.Bools.{or-more}
 use Rattle.spec_language.specs.Statements.{Expr}
 use Rattle.spec_language.proofs.Returns.{replaced, plain-less, plain-ok}
 use Rattle.spec_machine.specs.Program.{Program, varTypes}
-use Rattle.spec_machine.specs.Machine.{Frame, gather, and, wait, branch, check, Control, val, eval, exec, Saved, saved, State, exception, main, returned, running}
-use Rattle.spec_machine.specs.Fit.{HasFunction, AllHoldTyped, held, Takes, ControlOver, ReadsNodes, Flows, FlowsFrom, comes, comesFrom, Callers, WithinLimits, InWords, Fit}
+use Rattle.spec_machine.specs.Machine.{Frame, gather, and, wait, branch, check, Control, val, eval, exec, Saved, saved, State, exception, calling, returned, running}
+use Rattle.spec_machine.specs.Fit.{HasFunction, AllHoldTyped, held, Takes, ControlOver, ReadsNodes, Flows, FlowsFrom, comes, comesFrom, Entry, Callers, Proper, WithinLimits, InWords, Fit}
 use Rattle.spec_machine.proofs.Moves.{flows-mono, shared-mono}
 
 -- the program with each return judged as its expression alone
@@ -35,18 +35,18 @@ PlainFlows P f K d = Flows (plainly P) f (map plain K) d
 abbrev PlainFlowsFrom : Program → ℕ → Control → List Frame → Set → Type 0
 PlainFlowsFrom P f c K d = FlowsFrom (plainly P) f c (map plain K) d
 
-abbrev PlainCallers : Program → ℕ → List Saved → Type 0
-PlainCallers P f [] = f ≡ 0
-PlainCallers P f (saved g θ L ∷ A) =
-    AllHoldTyped θ (varTypes (P .fun g)) × Takes P g (P .fun f .result) L × PlainFlows P g L (held θ) × (comes P g L ≡ true) × PlainCallers P g A × HasFunction P g
+abbrev PlainCallers : Program → ℕ → ℕ → List Saved → Type 0
+PlainCallers P e f [] = f ≡ e
+PlainCallers P e f (saved g θ L ∷ A) =
+    AllHoldTyped θ (varTypes (P .fun g)) × Takes P g (P .fun f .result) L × PlainFlows P g L (held θ) × (comes P g L ≡ true) × PlainCallers P e g A × HasFunction P g
 
 abbrev PlainProper : Program → State → Type 0
 PlainProper P (State.value c) = Unit {0}
 PlainProper P (exception x) = Unit {0}
-PlainProper P (main α) = Unit {0}
-PlainProper P (returned α c) = Unit {0}
+PlainProper P (calling α o) = Proper P (calling α o)
+PlainProper P (returned α c) = Proper P (returned α c)
 PlainProper P (running c α f η K A) =
-    PlainCallers P f A × HasFunction P f × AllHoldTyped η (varTypes (P .fun f)) × ControlOver P f c K × PlainFlowsFrom P f c K (held η) × (comesFrom P f c K ≡ true)
+    Entry P (α .entry) × PlainCallers P (α .entry) f A × HasFunction P f × AllHoldTyped η (varTypes (P .fun f)) × ControlOver P f c K × PlainFlowsFrom P f c K (held η) × (comesFrom P f c K ≡ true)
 
 -- a state that is fit by that rule
 abbrev pub PlainFit : Program → State → Type 0
@@ -79,15 +79,15 @@ module _ (P : Program) where
   from-more f (eval n) K d o = (o .0, flows-more f K d (o .1))
   from-more f (exec r) K d o = (plain-ok (P .stmt f r) d (o .0), flows-mono P f K _ _ (plain-less (P .stmt f r) d) (flows-more f K _ (o .1)))
 
-  callers-more : (f : ℕ) (A : List Saved) → PlainCallers P f A → Callers P f A
-  callers-more f [] o = o
-  callers-more f (saved g θ L ∷ A) o = (o .0, o .1, flows-more g L (held θ) (o .2), o .3, callers-more g A (o .4), o .5)
+  callers-more : (e f : ℕ) (A : List Saved) → PlainCallers P e f A → Callers P e f A
+  callers-more e f [] o = o
+  callers-more e f (saved g θ L ∷ A) o = (o .0, o .1, flows-more g L (held θ) (o .2), o .3, callers-more e g A (o .4), o .5)
 
   -- every state that was fit is fit
   pub still-fit : (s : State) → PlainFit P s → Fit P s
   still-fit (State.value c) o = record { words = o .0; within = o .1; proper = o .2 }
   still-fit (exception x) o = record { words = o .0; within = o .1; proper = o .2 }
-  still-fit (main α) o = record { words = o .0; within = o .1; proper = o .2 }
+  still-fit (calling α a) o = record { words = o .0; within = o .1; proper = o .2 }
   still-fit (returned α c) o = record { words = o .0; within = o .1; proper = o .2 }
   still-fit (running c α f η K A) o =
       record {
@@ -95,11 +95,12 @@ module _ (P : Program) where
         within = o .1;
         proper =
             record {
-              callers = callers-more f A (o .2 .0);
-              known = o .2 .1;
-              holds = o .2 .2;
-              frames = o .2 .3;
-              flows = from-more f c K (held η) (o .2 .4);
-              returns = o .2 .5;
+              entry = o .2 .0;
+              callers = callers-more (α .entry) f A (o .2 .1);
+              known = o .2 .2;
+              holds = o .2 .3;
+              frames = o .2 .4;
+              flows = from-more f c K (held η) (o .2 .5);
+              returns = o .2 .6;
             };
       }

@@ -12,11 +12,12 @@ use Rattle.records.specs.declared.Found.the-variants.{At, Nothing}
 use Rattle.spec_language.specs.Flow.{leaves, missing, lacks}
 use Rattle.spec_machine.specs.Values.{Ty, tInt, tBool, Value, nothing, int, truth, typeV}
 use Rattle.spec_machine.specs.Program.{Operation, op, fn, Ref, Program, typeN, varTypes, typeOfVar, gives}
-use Rattle.spec_machine.specs.Machine.{Frame, gather, and, wait, branch, check, Control, val, eval, exec, Saved, saved, State, exception, main, returned, running}
+use Rattle.spec_machine.specs.Machine.{Frame, gather, and, wait, branch, check, Control, val, eval, exec, Saved, saved, RunEnv, State, exception, calling, returned, running, arguments}
 use Rattle.spec_machine.specs.Fit.{isConst, IsExpr, IsStmt, AllExpr, KnownOperation, held, comes, comesFrom, HoldsTyped, AllHoldTyped, TakesNone, Takes, ControlOver, ReadsNodes, Flows, FlowsFrom, Callers, Proper, WithinLimits, IsWord, AllWords, FramesInWords, ControlInWord, SavedInWords, InWords, Fit, callerLimit, frameLimit, savedFrameCount}
 use Rattle.spec_machine.specs.Run.{withinLimits}
 use Rattle.spec_machine.specs.Test.{areTy, exprIn, stmtIn, exprsIn, knownOperation, holdsTyped, allHoldTyped, takesNone, takes, controlOver, readsNodes, flows, flowsFrom, callers, isWord, allWords, framesInWords, controlInWord, savedInWords, inWords, proper, fit}
 use Rattle.spec_machine.proofs.Says.{Says, yes-unit, never, no-bottom, itself, negated, two, three, four, six, below, at-most, same}
+use Rattle.spec_machine.proofs.Given.{gives-says}
 
 pub types-say : (ts us : List Ty) → Says (areTy ts us) (ts ≡ us)
 types-say [] [] = record { so = λ e. refl; if = λ q. refl }
@@ -70,7 +71,7 @@ module _ (P : Program) where
 
   pub takes-says : (f : ℕ) (t : Ty) (K : List Frame) → Says (takes P f t K) (Takes P f t K)
   takes-says f t [] = no-bottom
-  takes-says f t (gather h vs ns ∷ K) = four (types-say _ _) (exprs-says f ns) (takes-says f (gives P h) K) (head-says h)
+  takes-says f t (gather h vs ns ∷ K) = four (types-say _ _) (exprs-says f ns) (gives-says (gives P h) (λ u. takes-says f u K) (none-says f K)) (head-says h)
   takes-says f t (and n ∷ K) = four (same t tBool) (expr-says f n) (same (typeN P f n) tBool) (takes-says f tBool K)
   takes-says f t (wait r ∷ K) = no-bottom
   takes-says f t (Frame.store x ∷ K) = three (same t (typeOfVar (P .fun f) x)) (below _ _) (none-says f K)
@@ -104,64 +105,65 @@ module _ (P : Program) where
   from-says f (eval n) K d = two (clear-says (missing (P .reads f n) d)) (flows-say f K d)
   from-says f (exec r) K d = two (clear-says (lacks (P .stmt f r) d)) (flows-say f K (leaves (P .stmt f r) d))
 
-  callers-say : (f : ℕ) (A : List Saved) → Says (callers P f A) (Callers P f A)
-  callers-say f [] = same f 0
-  callers-say f (saved g θ L ∷ A) = six (holds-says θ (varTypes (P .fun g))) (takes-says g (P .fun f .result) L) (flows-say g L (held θ)) (itself (comes P g L)) (callers-say g A) (below g (P .funs))
+  callers-say : (e f : ℕ) (A : List Saved) → Says (callers P e f A) (Callers P e f A)
+  callers-say e f [] = same f e
+  callers-say e f (saved g θ L ∷ A) = six (holds-says θ (varTypes (P .fun g))) (takes-says g (P .fun f .result) L) (flows-say g L (held θ)) (itself (comes P g L)) (callers-say e g A) (below g (P .funs))
 
   pub proper-says : (s : State) → Says (proper P s) (Proper P s)
   proper-says (State.value c) = yes-unit
   proper-says (exception x) = yes-unit
-  proper-says (main α) = yes-unit
-  proper-says (returned α c) = yes-unit
+  proper-says (calling α o) = two (same (α .entry) 0) (types-say _ _)
+  proper-says (returned α c) = same (α .entry) 0
   proper-says (running c α f η K A) =
-      let r = six (callers-say f A) (below f (P .funs)) (holds-says η (varTypes (P .fun f))) (given-says f c K) (from-says f c K (held η)) (itself (comesFrom P f c K)) in
+      let r = two (same (α .entry) 0) (six (callers-say (α .entry) f A) (below f (P .funs)) (holds-says η (varTypes (P .fun f))) (given-says f c K) (from-says f c K (held η)) (itself (comesFrom P f c K))) in
       record {
-        so = λ e. let u = r .so e in record { callers = u .0; known = u .1; holds = u .2; frames = u .3; flows = u .4; returns = u .5 };
-        if = λ p. r .if (p .callers, p .known, p .holds, p .frames, p .flows, p .returns);
+        so = λ e. let n = r .so e in let u = n .1 in record { entry = n .0; callers = u .0; known = u .1; holds = u .2; frames = u .3; flows = u .4; returns = u .5 };
+        if = λ p. r .if (p .entry, (p .callers, p .known, p .holds, p .frames, p .flows, p .returns));
       }
 
 pub limits-say : (s : State) → Says (withinLimits s) (WithinLimits s)
 limits-say (State.value c) = yes-unit
 limits-say (exception x) = yes-unit
-limits-say (main α) = yes-unit
+limits-say (calling α o) = yes-unit
 limits-say (returned α c) = yes-unit
 limits-say (running c α f η K A) = two (at-most (1 + length A) callerLimit) (at-most (length K + savedFrameCount A) frameLimit)
 
-word-says : (v : Value) → Says (isWord v) (IsWord v)
-word-says nothing = yes-unit
-word-says (int n) = below n (2 ^ 32)
-word-says (truth b) = yes-unit
+module _ (α : RunEnv) where
+  word-says : (v : Value) → Says (isWord α v) (IsWord α v)
+  word-says nothing = yes-unit
+  word-says (int n) = below n (2 ^ 32)
+  word-says (truth b) = yes-unit
 
-values-say : (vs : List Value) → Says (allWords vs) (AllWords vs)
-values-say [] = yes-unit
-values-say (v ∷ vs) = two (word-says v) (values-say vs)
+  values-say : (vs : List Value) → Says (allWords α vs) (AllWords α vs)
+  values-say [] = yes-unit
+  values-say (v ∷ vs) = two (word-says v) (values-say vs)
 
-frames-say : (K : List Frame) → Says (framesInWords K) (FramesInWords K)
-frames-say [] = yes-unit
-frames-say (gather h vs ns ∷ K) = two (values-say vs) (frames-say K)
-frames-say (and n ∷ K) = frames-say K
-frames-say (wait r ∷ K) = frames-say K
-frames-say (Frame.store x ∷ K) = frames-say K
-frames-say (branch a b ∷ K) = frames-say K
-frames-say (Frame.leave ∷ K) = frames-say K
-frames-say (check ∷ K) = frames-say K
-frames-say (Frame.discard ∷ K) = frames-say K
+  frames-say : (K : List Frame) → Says (framesInWords α K) (FramesInWords α K)
+  frames-say [] = yes-unit
+  frames-say (gather h vs ns ∷ K) = two (values-say vs) (frames-say K)
+  frames-say (and n ∷ K) = frames-say K
+  frames-say (wait r ∷ K) = frames-say K
+  frames-say (Frame.store x ∷ K) = frames-say K
+  frames-say (branch a b ∷ K) = frames-say K
+  frames-say (Frame.leave ∷ K) = frames-say K
+  frames-say (check ∷ K) = frames-say K
+  frames-say (Frame.discard ∷ K) = frames-say K
 
-control-says : (c : Control) → Says (controlInWord c) (ControlInWord c)
-control-says (val v) = word-says v
-control-says (eval n) = yes-unit
-control-says (exec r) = yes-unit
+  control-says : (c : Control) → Says (controlInWord α c) (ControlInWord α c)
+  control-says (val v) = word-says v
+  control-says (eval n) = yes-unit
+  control-says (exec r) = yes-unit
 
-saved-say : (A : List Saved) → Says (savedInWords A) (SavedInWords A)
-saved-say [] = yes-unit
-saved-say (saved g θ L ∷ A) = three (values-say θ) (frames-say L) (saved-say A)
+  saved-say : (A : List Saved) → Says (savedInWords α A) (SavedInWords α A)
+  saved-say [] = yes-unit
+  saved-say (saved g θ L ∷ A) = three (values-say θ) (frames-say L) (saved-say A)
 
 pub words-say : (s : State) → Says (inWords s) (InWords s)
 words-say (State.value c) = below c (2 ^ 32)
 words-say (exception x) = yes-unit
-words-say (main α) = yes-unit
+words-say (calling α o) = values-say α (arguments o)
 words-say (returned α c) = below c (2 ^ 32)
-words-say (running c α f η K A) = four (control-says c) (values-say η) (frames-say K) (saved-say A)
+words-say (running c α f η K A) = four (control-says α c) (values-say α η) (frames-say α K) (saved-say α A)
 
 pub fit-says : (P : Program) (s : State) → Says (fit P s) (Fit P s)
 fit-says P s =

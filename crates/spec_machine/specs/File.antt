@@ -28,14 +28,16 @@ andForm (l ∷ []) = ExprForm.stray
 andForm (l ∷ (m ∷ [])) = ExprForm.and l m
 andForm (l ∷ (m ∷ (k ∷ ks))) = ExprForm.stray
 
--- kinds 0 to 5: int, bool, variable, operator, &&, call; by kind
+-- one level of the kinds at node i: int, bool, variable, operator, &&, call, the statements, which are no expressions, and the value nothing; by kind
 unfoldable pub looks : List ℕ → ℕ → List ExprForm
 looks t i =
-    const (int (bAt t i)) ∷ const (truth (eqb (bAt t i) 1)) ∷ ExprForm.var (bAt t i) ∷ apply (op (aAt t i)) (kids t i) ∷ andForm (kids t i) ∷ apply (fn (bAt t i)) (kids t i) ∷ []
+    const (int (bAt t i)) ∷ const (truth (eqb (bAt t i) 1)) ∷ ExprForm.var (bAt t i) ∷ apply (op (aAt t i)) (kids t i) ∷ andForm (kids t i) ∷ apply (fn (bAt t i)) (kids t i)
+    ∷ ExprForm.stray ∷ ExprForm.stray ∷ ExprForm.stray ∷ ExprForm.stray ∷ ExprForm.stray ∷ ExprForm.stray ∷ ExprForm.stray ∷ ExprForm.stray ∷ ExprForm.stray
+    ∷ const nothing ∷ []
 
--- one level of the expression at node i; kind 15 is the value nothing; by kind
+-- one level of the expression at node i
 unfoldable pub lookAt : List ℕ → ℕ → ExprForm
-lookAt t i = pick (eqb (kindAt t i) 15) (const nothing) (getD (looks t i) (kindAt t i) ExprForm.stray)
+lookAt t i = getD (looks t i) (kindAt t i) ExprForm.stray
 
 -- nop is one and the same
 unfoldable pub refAt : List ℕ → ℕ → Ref

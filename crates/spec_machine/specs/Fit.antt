@@ -10,8 +10,8 @@ use Rattle.records.specs.Format.{mostVariables}
 use Rattle.records.specs.declared.Found.the-variants.{Nothing}
 use Rattle.spec_language.specs.Flow.{leaves, missing, lacks, returns}
 use Rattle.spec_machine.specs.Values.{Ty, tBool, Value, nothing, int, truth, typeV}
-use Rattle.spec_machine.specs.Program.{Operation, op, fn, Ref, node, ifOf, seqOf, ExprForm, const, apply, StmtForm, Program, owns, typeN, varTypes, typeOfVar, wants, gives}
-use Rattle.spec_machine.specs.Machine.{Frame, gather, and, wait, branch, check, Control, val, eval, exec, Saved, saved, RunEnv, State, exception, main, returned, running}
+use Rattle.spec_machine.specs.Program.{Operation, op, fn, Ref, node, ifOf, seqOf, ExprForm, const, apply, StmtForm, Program, owns, typeN, varTypes, typeOfVar, wants, gives, ifGiven}
+use Rattle.spec_machine.specs.Machine.{Frame, gather, and, wait, branch, check, Control, val, eval, exec, Saved, saved, RunEnv, State, exception, calling, returned, running, arguments}
 
 -- the limits: of saved callers, main's empty one included, and of the frames of all activations together
 abbrev pub callerLimit : ℕ
@@ -27,7 +27,7 @@ savedFrameCount (saved g θ L ∷ A) = length L + savedFrameCount A
 abbrev pub WithinLimits : State → Type 0
 WithinLimits (State.value c) = Unit {0}
 WithinLimits (exception x) = Unit {0}
-WithinLimits (main α) = Unit {0}
+WithinLimits (calling α o) = Unit {0}
 WithinLimits (returned α c) = Unit {0}
 WithinLimits (running c α f η K A) = (1 + length A ≤ callerLimit) × (length K + savedFrameCount A ≤ frameLimit)
 
@@ -149,7 +149,7 @@ TakesNone P f (Frame.discard ∷ K) = ⊥
 -- frames that are given a value of type t; by frame
 abbrev pub Takes : Program → ℕ → Ty → List Frame → Type 0
 Takes P f t [] = ⊥
-Takes P f t (gather h vs ns ∷ K) = (wants P h ≡ map typeV vs ++ (t ∷ map (typeN P f) ns)) × AllExpr P f ns × Takes P f (gives P h) K × KnownOperation P h
+Takes P f t (gather h vs ns ∷ K) = (wants P h ≡ map typeV vs ++ (t ∷ map (typeN P f) ns)) × AllExpr P f ns × ifGiven (gives P h) (λ u. Takes P f u K) (TakesNone P f K) × KnownOperation P h
 Takes P f t (and n ∷ K) = (t ≡ tBool) × IsExpr P f n × (typeN P f n ≡ tBool) × Takes P f tBool K
 Takes P f t (wait r ∷ K) = ⊥
 Takes P f t (Frame.store x ∷ K) = (t ≡ typeOfVar (P .fun f) x) × Var P f x × TakesNone P f K
@@ -198,14 +198,19 @@ comesFrom P f (val v) K = comes P f K
 comesFrom P f (eval n) K = comes P f K
 comesFrom P f (exec r) K = returns (P .stmt f r) || comes P f K
 
--- the saved callers of a running function: each wants its callee's result; main is entered over the empty caller
-abbrev pub Callers : Program → ℕ → List Saved → Type 0
-Callers P f [] = f ≡ 0
-Callers P f (saved g θ L ∷ A) =
-    AllHoldTyped θ (varTypes (P .fun g)) × Takes P g (P .fun f .result) L × Flows P g L (held θ) × (comes P g L ≡ true) × Callers P g A × HasFunction P g
+-- the function that a run is started with is main
+abbrev pub Entry : Program → ℕ → Type 0
+Entry P e = e ≡ 0
+
+-- the saved callers of a running function: each wants its callee's result; the entry function e is entered over the empty caller
+abbrev pub Callers : Program → ℕ → ℕ → List Saved → Type 0
+Callers P e f [] = f ≡ e
+Callers P e f (saved g θ L ∷ A) =
+    AllHoldTyped θ (varTypes (P .fun g)) × Takes P g (P .fun f .result) L × Flows P g L (held θ) × (comes P g L ≡ true) × Callers P e g A × HasFunction P g
 
 pub record Running (P : Program) (c : Control) (α : RunEnv) (f : ℕ) (η : List Value) (K : List Frame) (A : List Saved) : Type 0 where
-  pub callers : Callers P f A
+  pub entry : Entry P (α .entry)
+  pub callers : Callers P (α .entry) f A
   pub known : HasFunction P f
   pub holds : AllHoldTyped η (varTypes (P .fun f))
   pub frames : ControlOver P f c K
@@ -215,47 +220,47 @@ pub record Running (P : Program) (c : Control) (α : RunEnv) (f : ℕ) (η : Lis
 abbrev pub Proper : Program → State → Type 0
 Proper P (State.value c) = Unit {0}
 Proper P (exception x) = Unit {0}
-Proper P (main α) = Unit {0}
-Proper P (returned α c) = Unit {0}
+Proper P (calling α o) = Entry P (α .entry) × (P .fun (α .entry) .params ≡ map typeV (arguments o))
+Proper P (returned α c) = Entry P (α .entry)
 Proper P (running c α f η K A) = Running P c α f η K A
 
--- every int is a word of 32 bits
-abbrev pub IsWord : Value → Type 0
-IsWord nothing = Unit {0}
-IsWord (int n) = n < 2 ^ 32
-IsWord (truth b) = Unit {0}
+-- every int is a word of 32 bits, in the environment of the run
+abbrev pub IsWord : RunEnv → Value → Type 0
+IsWord α nothing = Unit {0}
+IsWord α (int n) = n < 2 ^ 32
+IsWord α (truth b) = Unit {0}
 
-abbrev pub AllWords : List Value → Type 0
-AllWords [] = Unit {0}
-AllWords (v ∷ vs) = IsWord v × AllWords vs
+abbrev pub AllWords : RunEnv → List Value → Type 0
+AllWords α [] = Unit {0}
+AllWords α (v ∷ vs) = IsWord α v × AllWords α vs
 
 -- every int in the frames is a word of 32 bits; by frame
-abbrev pub FramesInWords : List Frame → Type 0
-FramesInWords [] = Unit {0}
-FramesInWords (gather h vs ns ∷ K) = AllWords vs × FramesInWords K
-FramesInWords (and n ∷ K) = FramesInWords K
-FramesInWords (wait r ∷ K) = FramesInWords K
-FramesInWords (Frame.store x ∷ K) = FramesInWords K
-FramesInWords (branch a b ∷ K) = FramesInWords K
-FramesInWords (Frame.leave ∷ K) = FramesInWords K
-FramesInWords (check ∷ K) = FramesInWords K
-FramesInWords (Frame.discard ∷ K) = FramesInWords K
+abbrev pub FramesInWords : RunEnv → List Frame → Type 0
+FramesInWords α [] = Unit {0}
+FramesInWords α (gather h vs ns ∷ K) = AllWords α vs × FramesInWords α K
+FramesInWords α (and n ∷ K) = FramesInWords α K
+FramesInWords α (wait r ∷ K) = FramesInWords α K
+FramesInWords α (Frame.store x ∷ K) = FramesInWords α K
+FramesInWords α (branch a b ∷ K) = FramesInWords α K
+FramesInWords α (Frame.leave ∷ K) = FramesInWords α K
+FramesInWords α (check ∷ K) = FramesInWords α K
+FramesInWords α (Frame.discard ∷ K) = FramesInWords α K
 
-abbrev pub ControlInWord : Control → Type 0
-ControlInWord (val v) = IsWord v
-ControlInWord (eval n) = Unit {0}
-ControlInWord (exec r) = Unit {0}
+abbrev pub ControlInWord : RunEnv → Control → Type 0
+ControlInWord α (val v) = IsWord α v
+ControlInWord α (eval n) = Unit {0}
+ControlInWord α (exec r) = Unit {0}
 
-abbrev pub SavedInWords : List Saved → Type 0
-SavedInWords [] = Unit {0}
-SavedInWords (saved g θ L ∷ A) = AllWords θ × FramesInWords L × SavedInWords A
+abbrev pub SavedInWords : RunEnv → List Saved → Type 0
+SavedInWords α [] = Unit {0}
+SavedInWords α (saved g θ L ∷ A) = AllWords α θ × FramesInWords α L × SavedInWords α A
 
 abbrev pub InWords : State → Type 0
 InWords (State.value c) = c < 2 ^ 32
 InWords (exception x) = Unit {0}
-InWords (main α) = Unit {0}
+InWords (calling α o) = AllWords α (arguments o)
 InWords (returned α c) = c < 2 ^ 32
-InWords (running c α f η K A) = ControlInWord c × AllWords η × FramesInWords K × SavedInWords A
+InWords (running c α f η K A) = ControlInWord α c × AllWords α η × FramesInWords α K × SavedInWords α A
 
 -- a fit state
 pub record Fit (P : Program) (s : State) : Type 0 where

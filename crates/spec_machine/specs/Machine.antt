@@ -2,7 +2,7 @@
 use mathlib.Core.Path.{_≡_}
 use mathlib.Core.Bool.{true, false}
 use mathlib.Core.List.{List, [], _∷_, _++_}
-use mathlib.Core.Option.{none, some}
+use mathlib.Core.Option.{Option, none, some}
 use Prim.Native.Nat.{ℕ}
 use lib.ListN.{getD, set, length}
 use Rattle.spec_machine.specs.Values.{Value, nothing, int, truth, Ty, result}
@@ -33,17 +33,25 @@ pub data Control : Type 0 where
 pub data Saved : Type 0 where
   saved : ℕ → List Value → List Frame → Saved
 
--- what a later request adds to every state that is not final; nothing yet
-pub data RunEnv : Type 0 where
-  emptyEnv : RunEnv
+-- the environment of a run, in every state that is not final: the function that the run was started with
+pub record RunEnv : Type 0 where
+  pub entry : ℕ
 
--- running: control, environment, then the current activation's function, variables and frames, then the saved callers but the empty one
+-- the environment of a run of main
+abbrev pub emptyEnv : RunEnv
+emptyEnv = record { entry = 0 }
+
+-- calling: the entry function with its argument, if it has one, and nothing waiting; running: control, environment, then the current activation's function, variables and frames, then the saved callers but the empty one
 pub data State : Type 0 where
   value : ℕ → State
   exception : Exception → State
-  main : RunEnv → State
+  calling : RunEnv → Option ℕ → State
   returned : RunEnv → ℕ → State
   running : Control → RunEnv → ℕ → List Value → List Frame → List Saved → State
+
+-- main() with nothing waiting
+abbrev pub mainCall : State
+mainCall = calling emptyEnv none
 
 -- the rules of 002 that the machine uses; by kind; by frame
 pub data Rule : Type 0 where
@@ -78,6 +86,15 @@ blank (t ∷ ts) = nothing ∷ blank ts
 
 abbrev pub entered : Fun → List Value → List Value
 entered f vs = vs ++ blank (f .locals)
+
+-- the entry function is called with no argument, or with one int
+abbrev pub arguments : Option ℕ → List Value
+arguments none = []
+arguments (some n) = int n ∷ []
+
+abbrev pub entryName : Option ℕ → Rule
+entryName none = Rule.call-none
+entryName (some n) = Rule.call-enter
 
 -- what a step does to who has a value, beside what it reads
 pub data Event : Type 0 where
@@ -153,12 +170,13 @@ pub data Step (P : Program) : Rule → Event → State → State → Type 0 wher
   call-none : {m g f : ℕ} {η : List Value} {K : List Frame} {A : List Saved} {α : RunEnv}
       → P .look f m ≡ apply (fn g) []
       → Step P Rule.call-none (enters (length (P .fun g .params))) (running (eval m) α f η K A) (running (exec (P .fun g .body)) α g (entered (P .fun g) []) [] (saved f η K ∷ A))
-  call-main : {α : RunEnv} → Step P Rule.call-none (enters (length (P .fun 0 .params))) (main α) (running (exec (P .fun 0 .body)) α 0 (entered (P .fun 0) []) [] [])
+  call-entry : {o : Option ℕ} {α : RunEnv}
+      → Step P (entryName o) (enters (length (P .fun (α .entry) .params))) (calling α o) (running (exec (P .fun (α .entry) .body)) α (α .entry) (entered (P .fun (α .entry)) (arguments o)) [] [])
   return : {r : Ref} {n f : ℕ} {η : List Value} {K : List Frame} {A : List Saved} {α : RunEnv}
       → P .see f r ≡ StmtForm.return n
       → Step P Rule.return quiet (running (exec r) α f η K A) (running (reach P f n) α f η (Frame.leave ∷ K) A)
   leave : {v : Value} {f g : ℕ} {η θ : List Value} {K L : List Frame} {A : List Saved} {α : RunEnv}
       → Step P Rule.leave leaves (running (val v) α f η (Frame.leave ∷ K) (saved g θ L ∷ A)) (running (val v) α g θ L A)
-  leave-main : {c f : ℕ} {η : List Value} {K : List Frame} {α : RunEnv}
+  leave-entry : {c f : ℕ} {η : List Value} {K : List Frame} {α : RunEnv}
       → Step P Rule.leave leaves (running (val (int c)) α f η (Frame.leave ∷ K) []) (returned α c)
   value : {c : ℕ} {α : RunEnv} → Step P Rule.value ends (returned α c) (State.value c)

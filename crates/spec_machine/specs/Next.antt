@@ -6,7 +6,7 @@ use Prim.Native.Nat.{ℕ}
 use lib.ListN.{getD, set}
 use Rattle.spec_machine.specs.Values.{Value, nothing, int, truth, result}
 use Rattle.spec_machine.specs.Program.{Operation, op, fn, Ref, ifOf, ExprForm, const, apply, StmtForm, Program}
-use Rattle.spec_machine.specs.Machine.{arith, abort, Frame, gather, and, wait, branch, check, val, eval, exec, Saved, saved, RunEnv, State, exception, main, returned, running, Rule, reach, firstName, nextName, entered}
+use Rattle.spec_machine.specs.Machine.{arith, abort, Frame, gather, and, wait, branch, check, val, eval, exec, Saved, saved, RunEnv, State, exception, calling, returned, running, Rule, reach, firstName, nextName, entered, arguments, entryName}
 
 -- no rule applies, or this one does
 pub data Move : Type 0 where
@@ -93,7 +93,7 @@ runs P StmtForm.stray α f η K A = stuck
 abbrev pub next : Program → State → Move
 next P (State.value c) = stuck
 next P (exception x) = stuck
-next P (main α) = goes Rule.call-none (running (exec (P .fun 0 .body)) α 0 (entered (P .fun 0) []) [] [])
+next P (calling α o) = goes (entryName o) (running (exec (P .fun (α .entry) .body)) α (α .entry) (entered (P .fun (α .entry)) (arguments o)) [] [])
 next P (returned α c) = goes Rule.value (State.value c)
 next P (running (val v) α f η K A) = give P v α f η K A
 next P (running (eval n) α f η K A) = opens P (P .look f n) α f η K A

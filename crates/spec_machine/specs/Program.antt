@@ -1,5 +1,6 @@
 -- A program, as the machine sees it: one level of a node at a time.
 use mathlib.Core.Bool.{Bool}
+use mathlib.Core.Option.{Option, none, some}
 use mathlib.Core.List.{List, [], _∷_, _++_}
 use Prim.Native.Nat.{ℕ}
 use lib.Dec.{ltb}
@@ -87,15 +88,21 @@ abbrev pub wants : Program → Operation → List Ty
 wants P (op o) = tInt ∷ tInt ∷ []
 wants P (fn f) = P .fun f .params
 
-abbrev pub gives : Program → Operation → Ty
-gives P (op o) = pick (ltb o 10) tInt tBool
-gives P (fn f) = P .fun f .result
+-- the type of the value that an operation gives, if it gives one
+abbrev pub gives : Program → Operation → Option Ty
+gives P (op o) = some (pick (ltb o 10) tInt tBool)
+gives P (fn f) = some (P .fun f .result)
+
+-- by the type of what is given, or another thing where nothing is
+abbrev pub ifGiven {κ} : {B : Type κ} → Option Ty → (Ty → B) → B → B
+ifGiven none b c = c
+ifGiven (some t) b c = b t
 
 -- the type of an expression of function f, by its one level; by kind
 abbrev pub typeL : Program → ℕ → ExprForm → Ty
 typeL P f (const v) = typeV v
 typeL P f (var x) = typeOfVar (P .fun f) x
-typeL P f (apply h ns) = gives P h
+typeL P f (apply h ns) = ifGiven (gives P h) (λ t. t) tNone
 typeL P f (and n m) = tBool
 typeL P f stray = tNone
 

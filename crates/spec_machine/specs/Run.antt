@@ -10,7 +10,7 @@ use Rattle.varset.specs.Lowest.{pick}
 use Rattle.varset.specs.Sets.{Set, with, without}
 use Rattle.spec_machine.specs.Values.{Value}
 use Rattle.spec_machine.specs.Program.{Program}
-use Rattle.spec_machine.specs.Machine.{Exception, State, exception, main, returned, running, Saved, saved, Rule, Event, quiet, reads, has, lacks, enters, leaves, ends, Step}
+use Rattle.spec_machine.specs.Machine.{Exception, State, exception, calling, returned, running, Saved, saved, Rule, Event, quiet, reads, has, lacks, enters, leaves, ends, Step}
 use Rattle.spec_machine.specs.Next.{Move, stuck, next}
 use Rattle.spec_machine.specs.Fit.{held, WithinLimits, callerLimit, frameLimit, savedFrameCount}
 
@@ -49,7 +49,7 @@ savedHeld (saved g θ L ∷ A) = held θ ∷ savedHeld A
 abbrev pub allHeld : State → List Set
 allHeld (State.value c) = []
 allHeld (exception x) = []
-allHeld (main α) = []
+allHeld (calling α o) = []
 allHeld (returned α c) = []
 allHeld (running c α f η K A) = held η ∷ savedHeld A
 
@@ -63,7 +63,7 @@ pub data Outcome : Type 0 where
 abbrev pub Going : State → Type 0
 Going (State.value c) = ⊥
 Going (exception x) = ⊥
-Going (main α) = Unit {0}
+Going (calling α o) = Unit {0}
 Going (returned α c) = Unit {0}
 Going (running c α f η K A) = Unit {0}
 
@@ -80,7 +80,7 @@ pub data RunsTo (P : Program) : State → List Set → ℕ → ℕ → State →
 abbrev pub withinLimits : State → Bool
 withinLimits (State.value c) = true
 withinLimits (exception x) = true
-withinLimits (main α) = true
+withinLimits (calling α o) = true
 withinLimits (returned α c) = true
 withinLimits (running c α f η K A) = leb (1 + length A) callerLimit && leb (length K + savedFrameCount A) frameLimit
 
@@ -95,7 +95,7 @@ counted r = record { outcome = r .outcome; steps = suc (r .steps); state = r .st
 abbrev pub stopped : State → Ran
 stopped (State.value c) = record { outcome = Outcome.value c; steps = 0; state = State.value c }
 stopped (exception x) = record { outcome = raised x; steps = 0; state = exception x }
-stopped (main α) = record { outcome = Spent; steps = 0; state = main α }
+stopped (calling α o) = record { outcome = Spent; steps = 0; state = calling α o }
 stopped (returned α c) = record { outcome = Spent; steps = 0; state = returned α c }
 stopped (running c α f η K A) = record { outcome = Spent; steps = 0; state = running c α f η K A }
 
@@ -109,6 +109,10 @@ unfoldable pub runOf : Program → ℕ → State → Ran
 runOf P zero s = stopped s
 runOf P (suc a) s = onward s (next P s) (λ t. runOf P a t)
 
+-- the state that a run stops at
+abbrev pub after : Program → ℕ → State → State
+after P a s = runOf P a s .state
+
 -- the variable x of the current activation; none where there is no such variable
 abbrev pub looked : List Value → ℕ → Option Value
 looked [] x = none
@@ -118,6 +122,6 @@ looked (v ∷ η) (suc x) = looked η x
 abbrev pub lookUp : State → ℕ → Option Value
 lookUp (State.value c) x = none
 lookUp (exception e) x = none
-lookUp (main α) x = none
+lookUp (calling α o) x = none
 lookUp (returned α c) x = none
 lookUp (running c α f η K A) x = looked η x

@@ -9,8 +9,8 @@ use Rattle.records.specs.Format.{mostVariables}
 use Rattle.records.specs.Search.{clear}
 use Rattle.spec_language.specs.Flow.{leaves, missing, lacks}
 use Rattle.spec_machine.specs.Values.{Ty, tInt, tBool, Value, nothing, int, truth, typeV}
-use Rattle.spec_machine.specs.Program.{Operation, op, fn, Ref, Program, owns, typeN, varTypes, typeOfVar, wants, gives}
-use Rattle.spec_machine.specs.Machine.{Frame, gather, and, wait, branch, check, Control, val, eval, exec, Saved, saved, State, exception, main, returned, running}
+use Rattle.spec_machine.specs.Program.{Operation, op, fn, Ref, Program, owns, typeN, varTypes, typeOfVar, wants, gives, ifGiven}
+use Rattle.spec_machine.specs.Machine.{Frame, gather, and, wait, branch, check, Control, val, eval, exec, Saved, saved, RunEnv, State, exception, calling, returned, running, arguments}
 use Rattle.spec_machine.specs.Fit.{isExpr, isConst, isStmt, owned, held, comes, comesFrom}
 use Rattle.spec_machine.specs.Run.{withinLimits}
 
@@ -74,7 +74,7 @@ takesNone P f (Frame.discard ∷ K) = false
 -- frames that are given a value of type t; by frame
 abbrev pub takes : Program → ℕ → Ty → List Frame → Bool
 takes P f t [] = false
-takes P f t (gather h vs ns ∷ K) = areTy (wants P h) (map typeV vs ++ (t ∷ map (typeN P f) ns)) && (exprsIn P f ns && (takes P f (gives P h) K && knownOperation P h))
+takes P f t (gather h vs ns ∷ K) = areTy (wants P h) (map typeV vs ++ (t ∷ map (typeN P f) ns)) && (exprsIn P f ns && (ifGiven (gives P h) (λ u. takes P f u K) (takesNone P f K) && knownOperation P h))
 takes P f t (and n ∷ K) = eqb t tBool && (exprIn P f n && (eqb (typeN P f n) tBool && takes P f tBool K))
 takes P f t (wait r ∷ K) = false
 takes P f t (Frame.store x ∷ K) = eqb t (typeOfVar (P .fun f) x) && (hasVar P f x && takesNone P f K)
@@ -109,55 +109,59 @@ flowsFrom P f (val v) K d = flows P f K d
 flowsFrom P f (eval n) K d = reads P f n d && flows P f K d
 flowsFrom P f (exec r) K d = ok P f r d && flows P f K (leaves (P .stmt f r) d)
 
-abbrev pub callers : Program → ℕ → List Saved → Bool
-callers P f [] = eqb f 0
-callers P f (saved g θ L ∷ A) =
-    allHoldTyped θ (varTypes (P .fun g)) && (takes P g (P .fun f .result) L && (flows P g L (held θ) && (comes P g L && (callers P g A && hasFunction P g))))
+-- the function that a run is started with, and the saved callers down to it
+abbrev pub isEntry : Program → ℕ → Bool
+isEntry P e = eqb e 0
 
--- every int is a word of 32 bits
-abbrev pub isWord : Value → Bool
-isWord nothing = true
-isWord (int n) = ltb n (2 ^ 32)
-isWord (truth b) = true
+abbrev pub callers : Program → ℕ → ℕ → List Saved → Bool
+callers P e f [] = eqb f e
+callers P e f (saved g θ L ∷ A) =
+    allHoldTyped θ (varTypes (P .fun g)) && (takes P g (P .fun f .result) L && (flows P g L (held θ) && (comes P g L && (callers P e g A && hasFunction P g))))
 
-abbrev pub allWords : List Value → Bool
-allWords [] = true
-allWords (v ∷ vs) = isWord v && allWords vs
+-- every int is a word of 32 bits, in the environment of the run
+abbrev pub isWord : RunEnv → Value → Bool
+isWord α nothing = true
+isWord α (int n) = ltb n (2 ^ 32)
+isWord α (truth b) = true
+
+abbrev pub allWords : RunEnv → List Value → Bool
+allWords α [] = true
+allWords α (v ∷ vs) = isWord α v && allWords α vs
 
 -- every int in the frames is a word of 32 bits; by frame
-abbrev pub framesInWords : List Frame → Bool
-framesInWords [] = true
-framesInWords (gather h vs ns ∷ K) = allWords vs && framesInWords K
-framesInWords (and n ∷ K) = framesInWords K
-framesInWords (wait r ∷ K) = framesInWords K
-framesInWords (Frame.store x ∷ K) = framesInWords K
-framesInWords (branch a b ∷ K) = framesInWords K
-framesInWords (Frame.leave ∷ K) = framesInWords K
-framesInWords (check ∷ K) = framesInWords K
-framesInWords (Frame.discard ∷ K) = framesInWords K
+abbrev pub framesInWords : RunEnv → List Frame → Bool
+framesInWords α [] = true
+framesInWords α (gather h vs ns ∷ K) = allWords α vs && framesInWords α K
+framesInWords α (and n ∷ K) = framesInWords α K
+framesInWords α (wait r ∷ K) = framesInWords α K
+framesInWords α (Frame.store x ∷ K) = framesInWords α K
+framesInWords α (branch a b ∷ K) = framesInWords α K
+framesInWords α (Frame.leave ∷ K) = framesInWords α K
+framesInWords α (check ∷ K) = framesInWords α K
+framesInWords α (Frame.discard ∷ K) = framesInWords α K
 
-abbrev pub controlInWord : Control → Bool
-controlInWord (val v) = isWord v
-controlInWord (eval n) = true
-controlInWord (exec r) = true
+abbrev pub controlInWord : RunEnv → Control → Bool
+controlInWord α (val v) = isWord α v
+controlInWord α (eval n) = true
+controlInWord α (exec r) = true
 
-abbrev pub savedInWords : List Saved → Bool
-savedInWords [] = true
-savedInWords (saved g θ L ∷ A) = allWords θ && (framesInWords L && savedInWords A)
+abbrev pub savedInWords : RunEnv → List Saved → Bool
+savedInWords α [] = true
+savedInWords α (saved g θ L ∷ A) = allWords α θ && (framesInWords α L && savedInWords α A)
 
 abbrev pub inWords : State → Bool
 inWords (State.value c) = ltb c (2 ^ 32)
 inWords (exception x) = true
-inWords (main α) = true
+inWords (calling α o) = allWords α (arguments o)
 inWords (returned α c) = ltb c (2 ^ 32)
-inWords (running c α f η K A) = controlInWord c && (allWords η && (framesInWords K && savedInWords A))
+inWords (running c α f η K A) = controlInWord α c && (allWords α η && (framesInWords α K && savedInWords α A))
 
 abbrev pub proper : Program → State → Bool
 proper P (State.value c) = true
 proper P (exception x) = true
-proper P (main α) = true
-proper P (returned α c) = true
-proper P (running c α f η K A) = callers P f A && (hasFunction P f && (allHoldTyped η (varTypes (P .fun f)) && (controlOver P f c K && (flowsFrom P f c K (held η) && comesFrom P f c K))))
+proper P (calling α o) = isEntry P (α .entry) && areTy (P .fun (α .entry) .params) (map typeV (arguments o))
+proper P (returned α c) = isEntry P (α .entry)
+proper P (running c α f η K A) = isEntry P (α .entry) && (callers P (α .entry) f A && (hasFunction P f && (allHoldTyped η (varTypes (P .fun f)) && (controlOver P f c K && (flowsFrom P f c K (held η) && comesFrom P f c K)))))
 
 -- the state is fit
 abbrev pub fit : Program → State → Bool

@@ -18,8 +18,11 @@ pub const ACTIVATIONS: usize = 128;
 // Where the frames begin.
 pub const FRAMES: usize = 4480;
 
-// Where the spare words begin, which are zero.
-pub const SPARE: usize = 14720;
+// Where the environment of the run begins.
+pub const ENVIRONMENT: usize = 14720;
+
+// Where its entry function stands.
+pub const ENTRY: usize = 14721;
 
 // Where the slots begin in a frame.
 pub const SLOTS: usize = 4;
@@ -59,6 +62,9 @@ pub const TAG_ARITH: u32 = 5;
 
 // The tag of abort.
 pub const TAG_ABORT: u32 = 6;
+
+// The tag of an entry function's call with an int, which no fit state has yet.
+pub const TAG_CALL: u32 = 9;
 
 // The form of a control that is the value nothing.
 pub const FORM_NOTHING: u32 = 1;

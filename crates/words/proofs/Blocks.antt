@@ -36,6 +36,13 @@ puts-at vs l at h =
     ap (λ (t : List ℕ). puts t at 0 vs) (parted l at (length vs))
     ∙ puts-block vs (take (length vs) (drop at l)) (take at l) (drop (at + length vs) l) at 0 (p ∙ sym (add-zero at)) q
 
+-- the first words set to zero
+pub zeroed : (l : List ℕ) (n : ℕ) → n ≤ length l → puts l 0 0 (replicate n 0) ≡ replicate n 0 ++ drop n l
+zeroed l n h =
+    let z : length (replicate {A = ℕ} n 0) ≡ n = length-replicate {A = ℕ} n 0 in
+    let y : 0 + length (replicate {A = ℕ} n 0) ≡ n = omega arith in
+    puts-at (replicate n 0) l 0 (omega arith) ∙ ap (λ (k : ℕ). replicate n 0 ++ drop k l) y
+
 -- a part lent and given back as vs is a block stored
 pub lent : (vs l : List ℕ) (at n : ℕ) → length vs ≡ n → at + n ≤ length l → take at l ++ (vs ++ drop n (drop at l)) ≡ puts l at 0 vs
 lent vs l at n e h =

@@ -1,4 +1,6 @@
-use Rattle.check_summary.proofs.Arms.{none-of, after-one, seq-arm, decl-arm, if-arm, while-arm, assign-arm, return-arm, assert-arm, expr-arm, nop-arm}
+use Rattle.spec_language.specs.KindLists.{statements}
+use Rattle.spec_language.proofs.KindLists.{none-of}
+use Rattle.check_summary.proofs.Arms.{after-one, seq-arm, decl-arm, if-arm, while-arm, assign-arm, return-arm, assert-arm, expr-arm, nop-arm}
 use Rattle.check_summary.proofs.Filling.{read-asks, named-below}
 use Rattle.spec_language.specs.Scopes.{usesVariable}
 use Rattle.spec_language.specs.Known.{namesVariable}
@@ -170,7 +172,7 @@ returns-8 : tie.Need-returns-8
 returns-8 c = expr-arm (c .before .before .before .before .before .before .before .pre .0 .0) (c .before .before .before .before .before .before .before .pre .0 .1) _ (c .before .before .before .before .before .before .before .pre .1 .0) _ (c .before .before .needs-at6 .ensures) (sym (c .before .before .before .before .kind-at .ensures) ∙ c .before .before .before .match .keys8) (c .before .empty3 .ensures) (c .plain4 .ensures)
 
 returns-9 : tie.Need-returns-9
-returns-9 c = nop-arm (c .before .before .before .before .before .before .pre .0 .0) (c .before .before .before .before .before .before .pre .0 .1) _ (c .before .before .before .before .before .before .pre .1 .0) _ (none-of _ (λ e. c .before .before .match .rest .0 .0 .0 .0 .0 .0 .0 .1 (c .before .before .before .kind-at .ensures ∙ e)) (λ e. c .before .before .match .rest .0 .0 .0 .0 .0 .0 .1 (c .before .before .before .kind-at .ensures ∙ e)) (λ e. c .before .before .match .rest .0 .0 .0 .0 .0 .1 (c .before .before .before .kind-at .ensures ∙ e)) (λ e. c .before .before .match .rest .0 .0 .0 .0 .1 (c .before .before .before .kind-at .ensures ∙ e)) (λ e. c .before .before .match .rest .0 .0 .0 .1 (c .before .before .before .kind-at .ensures ∙ e)) (λ e. c .before .before .match .rest .0 .0 .1 (c .before .before .before .kind-at .ensures ∙ e)) (λ e. c .before .before .match .rest .0 .1 (c .before .before .before .kind-at .ensures ∙ e)) (λ e. c .before .before .match .rest .1 (c .before .before .before .kind-at .ensures ∙ e))) (c .before .empty4 .ensures) (c .before .empty4 .ensures) (c .plain5 .ensures)
+returns-9 c = nop-arm (c .before .before .before .before .before .before .pre .0 .0) (c .before .before .before .before .before .before .pre .0 .1) _ (c .before .before .before .before .before .before .pre .1 .0) _ (none-of statements _ (λ e. c .before .before .match .rest .0 .0 .0 .0 .0 .0 .0 .1 (c .before .before .before .kind-at .ensures ∙ e), (λ e. c .before .before .match .rest .0 .0 .0 .0 .0 .0 .1 (c .before .before .before .kind-at .ensures ∙ e), (λ e. c .before .before .match .rest .0 .0 .0 .0 .0 .1 (c .before .before .before .kind-at .ensures ∙ e), (λ e. c .before .before .match .rest .0 .0 .0 .0 .1 (c .before .before .before .kind-at .ensures ∙ e), (λ e. c .before .before .match .rest .0 .0 .0 .1 (c .before .before .before .kind-at .ensures ∙ e), (λ e. c .before .before .match .rest .0 .0 .1 (c .before .before .before .kind-at .ensures ∙ e), (λ e. c .before .before .match .rest .0 .1 (c .before .before .before .kind-at .ensures ∙ e), (λ e. c .before .before .match .rest .1 (c .before .before .before .kind-at .ensures ∙ e), tt))))))))) (c .before .empty4 .ensures) (c .before .empty4 .ensures) (c .plain5 .ensures)
 
 pub statement-row-spec : {M : Type 1} → statement M
 statement-row-spec =

@@ -3,7 +3,7 @@ use Prim.Native.Nat.{_-_}
 use native.Mathlib.Omega.{arith}
 use borrow.Author.Needs.{needs}
 use Rattle.spec_machine.specs.Machine.{State}
-use Rattle.entry_log.proofs.Steps.{state-held}
+use Rattle.entry_log.proofs.Steps.{no-env, state-held}
 use Rattle.entry_log.proofs.Loops.{Logging, logging-none, logging-held, took-room, logging-on, ended-standing, ended-crowded, ended-spent}
 use Rattle.entry_log.proofs.log_steps.Statement.{statement}
 use Rattle.entry_log.proofs.log_steps.Tie as tie
@@ -15,7 +15,7 @@ abbrev μ-loop : tie.MeasureT-loop
 μ-loop file m₀ before₀ allowed log₀ used extent₀ next₀ steps₀ m before log extent next steps = allowed - steps
 
 extent-of-requires : tie.Need-extent-of-requires Inv-loop μ-loop
-extent-of-requires c κs = let z = c .before .before .before .before .before .pre .0 in (state-held (c .before .before .before .before .before .args .file .now) (z .passed) (z .state) (z .rest) (z .fit) (z .held), c .before .before .before .before .before .pre .1)
+extent-of-requires c κs = let z = c .before .before .before .before .before .pre .0 in (state-held (c .before .before .before .before .before .args .file .now) (z .passed) (z .state) (z .rest) (z .fit) (z .held), c .before .before .before .before .before .pre .1, no-env (z .state) (z .rest) (c .before .before .before .before .before .args .file .now) (z .fit) (z .held))
 
 loop-holds : tie.Need-loop-holds Inv-loop μ-loop
 loop-holds c = logging-none _ _ _ _ _ _ _ (c .before .before .before .before .before .before .pre .2) (c .extent-of .ensures)

@@ -54,7 +54,7 @@ giving-requires c κs = search needs
 
 returns-3 : tie.Need-returns-3
 unfolding operands programOf funOf
-returns-3 c = let a = c .before .before .before .before .before .before .before .before .before .before .before .before .before .before .before .before .args in let g = c .before .before .before .before .before .before .before .before .before .before .before .frame-word .result in rw (← c .before .before .before .before .before .before .before .before .before .before .before .frame-word .ensures) (gather-law (maskType (maskOf (a .file .now) g)) (paramsOf (a .file .now) g) (not-false _ (c .before .before .before .before .before .before .before .before .before .if1 .left)) (lt-ltb _ _ (rw (c .before .before .before .before .before .before .before .before .function-count .ensures .0) at (c .before .before .before .before .before .before .before .if2 .left))) (call-wants (a .file .now) g) (rw (c .before .before .before .mask-of .ensures, c .before .before .before .before .wide .ensures .0, c .before .before .before .before .before .params-of .ensures) at (c .before .before .gathers .ensures)) (c .giving .ensures ∙ rw (c .before .result-of .ensures)))
+returns-3 c = let a = c .before .before .before .before .before .before .before .before .before .before .before .before .before .before .before .before .args in let g = c .before .before .before .before .before .before .before .before .before .before .before .frame-word .result in rw (← c .before .before .before .before .before .before .before .before .before .before .before .frame-word .ensures) (gather-law (maskType (maskOf (a .file .now) g) 0 0) (paramsOf (a .file .now) g) (not-false _ (c .before .before .before .before .before .before .before .before .before .if1 .left)) (lt-ltb _ _ (rw (c .before .before .before .before .before .before .before .before .function-count .ensures .0) at (c .before .before .before .before .before .before .before .if2 .left))) (call-wants (a .file .now) g) (rw (c .before .before .before .mask-of .ensures, c .before .before .before .before .wide .ensures .0, c .before .before .before .before .before .params-of .ensures) at (c .before .before .gathers .ensures)) (c .giving .ensures ∙ rw (c .before .result-of .ensures)))
 
 pub call-step-spec : {M : Type 1} → statement M
 call-step-spec =

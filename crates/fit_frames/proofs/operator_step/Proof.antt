@@ -39,7 +39,7 @@ giving-requires c κs = search needs
 
 returns-3 : tie.Need-returns-3
 unfolding operands typesFrom operatorType
-returns-3 c = gather-law (maskType 0) 2 (not-false _ (c .before .before .before .before .before .if1 .left)) (rw (sym (c .before .before .before .before .before .before .before .frame-word .ensures)) (lt-ltb _ _ (c .before .before .before .before .if2 .left))) refl (c .before .before .gathers .ensures) (c .giving .ensures ∙ rw (c .before .operator-type .ensures, c .before .before .before .before .before .before .before .frame-word .ensures))
+returns-3 c = gather-law (maskType 0 0 0) 2 (not-false _ (c .before .before .before .before .before .if1 .left)) (rw (sym (c .before .before .before .before .before .before .before .frame-word .ensures)) (lt-ltb _ _ (c .before .before .before .before .if2 .left))) refl (c .before .before .gathers .ensures) (c .giving .ensures ∙ rw (c .before .operator-type .ensures, c .before .before .before .before .before .before .before .frame-word .ensures))
 
 pub operator-step-spec : {M : Type 1} → statement M
 operator-step-spec =

@@ -76,20 +76,8 @@ part-all-zero-end c = search needs
 all-zero-requires : tie.Need-all-zero-requires Inv-loop μ-loop
 all-zero-requires c κs = search needs
 
-sub-all-zero-2 : tie.Need-sub-all-zero-2 Inv-loop μ-loop
-sub-all-zero-2 c = search needs
-
-part-all-zero-start-2 : tie.Need-part-all-zero-start-2 Inv-loop μ-loop
-part-all-zero-start-2 c = search needs
-
-part-all-zero-end-2 : tie.Need-part-all-zero-end-2 Inv-loop μ-loop
-part-all-zero-end-2 c = search needs
-
-all-zero-requires-2 : tie.Need-all-zero-requires-2 Inv-loop μ-loop
-all-zero-requires-2 c κs = search needs
-
 returns-2 : tie.Need-returns-2 Inv-loop μ-loop
-returns-2 c = let l = c .before .before .before .before .before .loop in rw (c .all-zero2 .ensures, c .before .before .all-zero .ensures) (frames-end (c .before .before .before .before .before .before .before .args .m .now) _ (l .inv .1 ∙ passing-end 20 frameOk _ 4480 (l .i) (omega arith)))
+returns-2 c = let l = c .before .before .before .loop in c .all-zero .ensures ∙ frames-end (c .before .before .before .before .before .args .m .now) _ (l .inv .1 ∙ passing-end 20 frameOk _ 4480 (l .i) (omega arith))
 
 pub frames-ok-spec : {M : Type 1} → statement M
 frames-ok-spec =
@@ -117,8 +105,4 @@ frames-ok-spec =
     part-all-zero-start
     part-all-zero-end
     all-zero-requires
-    sub-all-zero-2
-    part-all-zero-start-2
-    part-all-zero-end-2
-    all-zero-requires-2
     returns-2)

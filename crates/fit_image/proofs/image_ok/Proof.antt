@@ -32,8 +32,23 @@ returns-3 c = image-many _ _ (c .before .before .before .before .wide .ensures .
 frames-ok-requires : tie.Need-frames-ok-requires
 frames-ok-requires c κs = search needs
 
+shared-slice-read-env-ok : tie.Need-shared-slice-read-env-ok
+shared-slice-read-env-ok c = search needs
+
+sub-env-ok : tie.Need-sub-env-ok
+sub-env-ok c = search needs
+
+part-env-ok-start : tie.Need-part-env-ok-start
+part-env-ok-start c = search needs
+
+part-env-ok-end : tie.Need-part-env-ok-end
+part-env-ok-end c = search needs
+
+env-ok-requires : tie.Need-env-ok-requires
+env-ok-requires c κs = search needs
+
 returns-4 : tie.Need-returns-4
-returns-4 c = c .frames-ok .ensures ∙ image-end _ _ (c .before .before .before .before .before .wide .ensures .0) (sym (c .before .before .before .before .before .before .before .before .head-ok .ensures) ∙ not-false _ (c .before .before .before .before .before .before .before .if1 .left)) (sym (c .before .before .before .before .activations-ok .ensures) ∙ not-false _ (c .before .before .before .if2 .left)) _ (c .before .before .frames-held .ensures) (c .before .if3 .left)
+returns-4 c = rw (c .env-ok .ensures, c .before .before .before .frames-ok .ensures) (image-end _ _ (c .before .before .before .before .before .before .before .before .wide .ensures .0) (sym (c .before .before .before .before .before .before .before .before .before .before .before .head-ok .ensures) ∙ not-false _ (c .before .before .before .before .before .before .before .before .before .before .if1 .left)) (sym (c .before .before .before .before .before .before .before .activations-ok .ensures) ∙ not-false _ (c .before .before .before .before .before .before .if2 .left)) _ (c .before .before .before .before .before .frames-held .ensures) (c .before .before .before .before .if3 .left))
 
 pub image-ok-spec : {M : Type 1} → statement M
 image-ok-spec =
@@ -48,4 +63,9 @@ image-ok-spec =
     frames-held-requires
     returns-3
     frames-ok-requires
+    shared-slice-read-env-ok
+    sub-env-ok
+    part-env-ok-start
+    part-env-ok-end
+    env-ok-requires
     returns-4)

@@ -1,4 +1,4 @@
-use lib.ListN.{length}
+use lib.ListN.{length, getD}
 use mathlib.Core.Path.{_≡_, refl, sym, _∙_}
 use Prim.Native.Nat.{_-_, _≤_, _<_}
 use native.Mathlib.Omega.{arith}
@@ -18,7 +18,7 @@ use Rattle.fit_state.proofs.callers_fit.Statement.{statement}
 use Rattle.fit_state.proofs.callers_fit.Tie as tie
 
 abbrev Inv-loop : tie.InvT-loop
-Inv-loop file starts table₀ m n high f a₀ g₀ top₀ table a g top = (a ≤ n) × (g < functions file) × (top ≡ heldIn m a) × (top ≤ 512) × (callersFit (programOf file) f (activationsTo m n) (framesTo m high) ≡ callersFit (programOf file) g (activationsTo m a) (framesTo m top)) × (length table ≡ length table₀) × RowsFilled (partOf file g) table (countOf file g)
+Inv-loop file starts table₀ m n high f a₀ g₀ top₀ table a g top = (a ≤ n) × (g < functions file) × (top ≡ heldIn m a) × (top ≤ 512) × (callersFit (programOf file) (getD m 14721 0) f (activationsTo m n) (framesTo m high) ≡ callersFit (programOf file) (getD m 14721 0) g (activationsTo m a) (framesTo m top)) × (length table ≡ length table₀) × RowsFilled (partOf file g) table (countOf file g)
 
 abbrev μ-loop : tie.MeasureT-loop
 μ-loop file starts table₀ m n high f a₀ g₀ top₀ table a g top = a
@@ -40,7 +40,7 @@ same-length c = c .before .before .before .activation-fits .kept .1 .1 .0 ∙ c 
 
 returns : tie.Need-returns Inv-loop μ-loop
 unfolding overIs programOf funOf
-returns c = let l = c .before .before .before .before .before .before .before .loop in let a = c .before .before .before .before .before .before .before .before .before .before .before .args in sym (l .inv .4 ∙ callers-less (programOf (a .file .now)) (a .m .now) (l .g) (l .a) (l .top) (c .before .before .before .before .before .before .loop-test .taken) (rw (c .before .before .before .before .before .result-of .ensures) at (sym (c .before .before .before .activation-fits .ensures .0) ∙ not-true _ (c .if1 .taken))))
+returns c = let l = c .before .before .before .before .before .before .before .loop in let a = c .before .before .before .before .before .before .before .before .before .before .before .args in sym (l .inv .4 ∙ callers-less (programOf (a .file .now)) (a .m .now) (getD (a .m .now) 14721 0) (l .g) (l .a) (l .top) (c .before .before .before .before .before .before .loop-test .taken) (rw (c .before .before .before .before .before .result-of .ensures) at (sym (c .before .before .before .activation-fits .ensures .0) ∙ not-true _ (c .if1 .taken))))
 
 activation-word-requires : tie.Need-activation-word-requires Inv-loop μ-loop
 activation-word-requires c κs = (c .before .before .before .before .before .before .before .before .before .before .before .pre .1 .0, omega (arith, c .before .before .before .before .before .before .before .loop .inv .0, c .before .before .before .before .before .before .before .before .before .before .before .pre .1 .1, c .before .before .before .before .before .before .loop-test .taken), omega arith)
@@ -62,13 +62,19 @@ loop-less c = search needs
 
 loop-again : tie.Need-loop-again Inv-loop μ-loop
 unfolding overIs programOf funOf
-loop-again c = let l = c .before .before .before .before .before .before .before .before .before .loop in let a = c .before .before .before .before .before .before .before .before .before .before .before .before .before .args in let t = total-last (a .m .now) (l .a) (c .activation-word2 .result) (c .before .before .before .before .before .before .before .before .loop-test .taken) (c .activation-word2 .ensures) in (search needs, ltb-true _ _ (fit-known (programOf (a .file .now)) (calls (c .before .before .before .before .before .before .before .result-of .result)) (a .m .now) (l .a - 1) (framesTo (a .m .now) (l .top)) (c .before .activation-word .result) (c .before .activation-word .ensures) (sym (c .before .before .before .before .before .activation-fits .ensures .0) ∙ not-false _ (c .before .before .if1 .left))), omega (arith, l .inv .2, t), omega (arith, l .inv .3), l .inv .4 ∙ callers-more (programOf (a .file .now)) (a .m .now) (l .g) (l .a) (l .top) (c .before .before .before .before .before .before .before .before .loop-test .taken) (c .before .activation-word .result) (c .activation-word2 .result) (c .before .activation-word .ensures) (c .activation-word2 .ensures) (omega (arith, l .inv .2, t)) (rw (c .before .before .before .before .before .before .before .result-of .ensures) at (sym (c .before .before .before .before .before .activation-fits .ensures .0) ∙ not-false _ (c .before .before .if1 .left))), c .before .before .before .before .before .activation-fits .kept .1 .1 .0 ∙ l .inv .5, c .before .before .before .before .before .activation-fits .ensures .1 _ (c .before .activation-word .ensures) (not-false _ (c .before .before .if1 .left)))
+loop-again c = let l = c .before .before .before .before .before .before .before .before .before .loop in let a = c .before .before .before .before .before .before .before .before .before .before .before .before .before .args in let t = total-last (a .m .now) (l .a) (c .activation-word2 .result) (c .before .before .before .before .before .before .before .before .loop-test .taken) (c .activation-word2 .ensures) in (search needs, ltb-true _ _ (fit-known (programOf (a .file .now)) (calls (c .before .before .before .before .before .before .before .result-of .result)) (a .m .now) (l .a - 1) (framesTo (a .m .now) (l .top)) (c .before .activation-word .result) (c .before .activation-word .ensures) (sym (c .before .before .before .before .before .activation-fits .ensures .0) ∙ not-false _ (c .before .before .if1 .left))), omega (arith, l .inv .2, t), omega (arith, l .inv .3), l .inv .4 ∙ callers-more (programOf (a .file .now)) (a .m .now) (getD (a .m .now) 14721 0) (l .g) (l .a) (l .top) (c .before .before .before .before .before .before .before .before .loop-test .taken) (c .before .activation-word .result) (c .activation-word2 .result) (c .before .activation-word .ensures) (c .activation-word2 .ensures) (omega (arith, l .inv .2, t)) (rw (c .before .before .before .before .before .before .before .result-of .ensures) at (sym (c .before .before .before .before .before .activation-fits .ensures .0) ∙ not-false _ (c .before .before .if1 .left))), c .before .before .before .before .before .activation-fits .kept .1 .1 .0 ∙ l .inv .5, c .before .before .before .before .before .activation-fits .ensures .1 _ (c .before .activation-word .ensures) (not-false _ (c .before .before .if1 .left)))
+
+shared-slice-read-result : tie.Need-shared-slice-read-result Inv-loop μ-loop
+shared-slice-read-result c = search needs
+
+cast-result : tie.Need-cast-result Inv-loop μ-loop
+cast-result c = omega (arith, c .shared-slice-known3 .given 14721 .fits)
 
 same-length-2 : tie.Need-same-length-2 Inv-loop μ-loop
-same-length-2 c = c .before .loop .inv .5
+same-length-2 c = c .before .before .loop .inv .5
 
 returns-2 : tie.Need-returns-2 Inv-loop μ-loop
-returns-2 c = let l = c .before .loop in let a = c .before .before .before .before .before .args in let z : l .a ≡ 0 = omega (arith, c .loop-test .left) in sym (l .inv .4 ∙ callers-end (programOf (a .file .now)) (a .m .now) (l .g) (l .a) (framesTo (a .m .now) (l .top)) z)
+returns-2 c = let l = c .before .before .loop in let a = c .before .before .before .before .before .before .args in let z : l .a ≡ 0 = omega (arith, c .before .loop-test .left) in sym (l .inv .4 ∙ callers-end (programOf (a .file .now)) (a .m .now) (getD (a .m .now) 14721 0) (l .g) (l .a) (framesTo (a .m .now) (l .top)) z)
 
 pub callers-fit-spec : {M : Type 1} → statement M
 callers-fit-spec =
@@ -89,5 +95,7 @@ callers-fit-spec =
     sub-top
     loop-less
     loop-again
+    shared-slice-read-result
+    cast-result
     same-length-2
     returns-2)

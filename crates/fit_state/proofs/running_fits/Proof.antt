@@ -50,7 +50,7 @@ same-length c = search needs
 
 returns : tie.Need-returns
 unfolding overIs
-returns c = let a = c .before .before .before .before .before .before .before .before .before .before .before .before .before .before .before .args in λ s R e w n. sym (fits-less (programOf (a .file .now)) (a .m .now) s R e w n (λ i. c .before .before .before .before .before .before .before .before .before .before .before .before .shared-slice-known2 .given i .fits) (c .before .before .before .before .before .before .before .before .before .before .before .before .before .before .before .pre .0 .3) (controlIs (c .before .before .before .before .before .before .control-of .result)) (c .before .before .before .before .before .before .before .before .before .before .frames-held .result) (c .before .before .before .before .before .before .control-of .ensures) (c .before .before .before .before .before .before .before .before .before .before .frames-held .ensures) (some (a .m .now) (c .before .before .before .before .before .before .before .before .before .before .before .before .before .before .before .pre .0 .2) (c .before .before .before .before .before .before .before .before .before .before .before .before .before .before .before .pre .0 .3)) (sym (c .before .before .before .activation-fits .ensures .0) ∙ not-true _ (c .if1 .taken)))
+returns c = let a = c .before .before .before .before .before .before .before .before .before .before .before .before .before .before .before .args in λ s R e w n. sym (fits-less (programOf (a .file .now)) (a .m .now) s R e w n (λ i. c .before .before .before .before .before .before .before .before .before .before .before .before .shared-slice-known2 .given i .fits) (c .before .before .before .before .before .before .before .before .before .before .before .before .before .before .before .pre .0 .3) (c .before .before .before .before .before .before .before .before .before .before .before .before .before .before .before .pre .0 .4) (controlIs (c .before .before .before .before .before .before .control-of .result)) (c .before .before .before .before .before .before .before .before .before .before .frames-held .result) (c .before .before .before .before .before .before .control-of .ensures) (c .before .before .before .before .before .before .before .before .before .before .frames-held .ensures) (some (a .m .now) (c .before .before .before .before .before .before .before .before .before .before .before .before .before .before .before .pre .0 .2) (c .before .before .before .before .before .before .before .before .before .before .before .before .before .before .before .pre .0 .3)) (sym (c .before .before .before .activation-fits .ensures .0) ∙ not-true _ (c .if1 .taken)))
 
 activation-word-requires : tie.Need-activation-word-requires
 activation-word-requires c κs = let a = c .before .before .before .before .before .before .before .before .before .before .before .before .before .before .before .args in (c .before .before .before .before .before .before .before .before .before .before .before .before .before .before .before .pre .0 .1, omega (arith, few (a .m .now) (c .before .before .before .before .before .before .before .before .before .before .before .before .before .before .before .pre .0 .2), some (a .m .now) (c .before .before .before .before .before .before .before .before .before .before .before .before .before .before .before .pre .0 .2) (c .before .before .before .before .before .before .before .before .before .before .before .before .before .before .before .pre .0 .3)), omega arith)
@@ -76,7 +76,7 @@ same-length-2 c = search needs
 
 returns-2 : tie.Need-returns-2
 unfolding overIs
-returns-2 c = let a = c .before .before .before .before .before .before .before .before .before .before .before .before .before .before .before .before .before .before .before .before .before .before .args in λ s R e w n. let o = some (a .m .now) (c .before .before .before .before .before .before .before .before .before .before .before .before .before .before .before .before .before .before .before .before .before .before .pre .0 .2) (c .before .before .before .before .before .before .before .before .before .before .before .before .before .before .before .before .before .before .before .before .before .before .pre .0 .3) in c .before .before .callers-fit .ensures ∙ sym (fits-more (programOf (a .file .now)) (a .m .now) s R e w n (λ i. c .before .before .before .before .before .before .before .before .before .before .before .before .before .before .before .before .before .before .before .shared-slice-known2 .given i .fits) (c .before .before .before .before .before .before .before .before .before .before .before .before .before .before .before .before .before .before .before .before .before .before .pre .0 .3) (controlIs (c .before .before .before .before .before .before .before .before .before .before .before .before .before .control-of .result)) (c .before .before .before .before .before .before .before .before .before .before .before .before .before .before .before .before .before .frames-held .result) (c .before .before .before .before .before .before .before .before .before .before .before .before .before .control-of .ensures) (c .before .before .before .before .before .before .before .before .before .before .before .before .before .before .before .before .before .frames-held .ensures) o (c .before .before .before .before .before .before .activation-word .result) (c .before .before .before .before .before .activation-word2 .result) (c .before .before .before .before .before .before .activation-word .ensures) (c .before .before .before .before .before .activation-word2 .ensures) (omega (arith, c .before .before .before .before .before .before .before .before .before .before .before .before .before .before .before .before .before .frames-held .ensures, total-last (a .m .now) (getD (a .m .now) 2 0) (c .before .before .before .before .before .activation-word2 .result) o (c .before .before .before .before .before .activation-word2 .ensures))) (sym (c .before .before .before .before .before .before .before .before .before .before .activation-fits .ensures .0) ∙ not-false _ (c .before .before .before .before .before .before .before .if1 .left)))
+returns-2 c = let a = c .before .before .before .before .before .before .before .before .before .before .before .before .before .before .before .before .before .before .before .before .before .before .args in λ s R e w n. let o = some (a .m .now) (c .before .before .before .before .before .before .before .before .before .before .before .before .before .before .before .before .before .before .before .before .before .before .pre .0 .2) (c .before .before .before .before .before .before .before .before .before .before .before .before .before .before .before .before .before .before .before .before .before .before .pre .0 .3) in c .before .before .callers-fit .ensures ∙ sym (fits-more (programOf (a .file .now)) (a .m .now) s R e w n (λ i. c .before .before .before .before .before .before .before .before .before .before .before .before .before .before .before .before .before .before .before .shared-slice-known2 .given i .fits) (c .before .before .before .before .before .before .before .before .before .before .before .before .before .before .before .before .before .before .before .before .before .before .pre .0 .3) (c .before .before .before .before .before .before .before .before .before .before .before .before .before .before .before .before .before .before .before .before .before .before .pre .0 .4) (controlIs (c .before .before .before .before .before .before .before .before .before .before .before .before .before .control-of .result)) (c .before .before .before .before .before .before .before .before .before .before .before .before .before .before .before .before .before .frames-held .result) (c .before .before .before .before .before .before .before .before .before .before .before .before .before .control-of .ensures) (c .before .before .before .before .before .before .before .before .before .before .before .before .before .before .before .before .before .frames-held .ensures) o (c .before .before .before .before .before .before .activation-word .result) (c .before .before .before .before .before .activation-word2 .result) (c .before .before .before .before .before .before .activation-word .ensures) (c .before .before .before .before .before .activation-word2 .ensures) (omega (arith, c .before .before .before .before .before .before .before .before .before .before .before .before .before .before .before .before .before .frames-held .ensures, total-last (a .m .now) (getD (a .m .now) 2 0) (c .before .before .before .before .before .activation-word2 .result) o (c .before .before .before .before .before .activation-word2 .ensures))) (sym (c .before .before .before .before .before .before .before .before .before .before .activation-fits .ensures .0) ∙ not-false _ (c .before .before .before .before .before .before .before .if1 .left)))
 
 pub running-fits-spec : {M : Type 1} → statement M
 running-fits-spec =

@@ -56,7 +56,7 @@ loop-less c = search needs
 loop-again : tie.Need-loop-again Inv-loop μ-loop
 loop-again c =
     ⊎-elim
-    (λ w. other-put (c .before .before .before .before .loop .inv) (c .before .before .before .loop-test .taken) (c .before .before .before .before .before .before .before .before .pre .0) (w .0 .taken) _ _ _ (w .5 ∙ w .2 .ensures) (w .6) (w .7))
+    (λ w. other-put (c .before .before .before .before .loop .inv) (c .before .before .before .loop-test .taken) (c .before .before .before .before .before .before .before .before .pre .0) _ _ _ (w .5 ∙ w .2 .ensures) (w .6) (w .7) (w .0 .taken))
     (λ w. same-put (c .before .before .before .before .loop .inv) (c .before .before .before .loop-test .taken) (c .before .before .before .before .before .before .before .before .pre .0) (w .0 .left) _ _ _ (w .1) (w .2) (w .3))
     (c .if1 .came)
 

@@ -2,6 +2,7 @@ use lib.ListN.{length-set}
 use mathlib.Core.Path.{_∙_}
 use native.Mathlib.Omega.{arith}
 use native.Mathlib.Nat.{sub-zero}
+use Rattle.spec_image.specs.Image.{envPart}
 use Rattle.run_loop.proofs.Starting.{cleared}
 use borrow.Author.Needs.{needs}
 use Rattle.run_loop.proofs.conclude.Statement.{statement}
@@ -20,7 +21,7 @@ same-length : tie.Need-same-length
 same-length c = c .before .before .finish .kept .0 ∙ simp length-set
 
 returns : tie.Need-returns
-returns c P R e = let b = c .before .before .before .before .before in rw (sub-zero (b .args .allowed)) at (c .before .before .finish .ensures P R (cleared _ _ R tt e))
+returns c P α R n e = let b = c .before .before .before .before .before in rw (sub-zero (b .args .allowed)) at (c .before .before .finish .ensures P α R n (unfold envPart in (cleared _ _ R tt e)))
 
 pub conclude-spec : {M : Type 1} → statement M
 conclude-spec =

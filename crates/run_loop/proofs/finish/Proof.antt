@@ -2,7 +2,7 @@ use mathlib.Core.Path.{refl}
 use mir.Syntax.{w32}
 use mir.ValLaws.{toZ-ofZ}
 use Rattle.spec_machine.specs.Machine as machine
-use Rattle.run_loop.proofs.Ending.{value-rests, returned-rests, ends-step, ends-returned, ends-value}
+use Rattle.run_loop.proofs.Ending.{value-emptied, returned-emptied, value-rests, returned-rests, ends-step, ends-returned, ends-value}
 use borrow.Author.Needs.{needs}
 use Rattle.run_loop.proofs.finish.Statement.{statement}
 use Rattle.run_loop.proofs.finish.Tie as tie
@@ -20,11 +20,11 @@ same-length : tie.Need-same-length
 same-length c = search needs
 
 returns : tie.Need-returns
-returns c P R cl =
+returns c P α R n cl =
     let b = c .before .before .before .before .before .before .before in
     rw (toZ-ofZ w32 (c .signed .result) (record { sfits = c .signed .ok }), c .signed .ensures)
     (ends-step P (b .args .allowed) (b .args .steps) _ _ machine.Rule.value (c .before .before .before .before .before .if1 .taken) refl refl
-    (ends-value P (b .args .allowed) _ _ _ R (c .before .before .before .put-rest .ensures _ R cl (value-rests _))))
+    (ends-value P (b .args .allowed) _ _ _ R (c .before .before .before .put-rest .ensures _ R (value-emptied α _ _ R n cl) (value-rests _))))
 
 put-rest-requires-2 : tie.Need-put-rest-requires-2
 put-rest-requires-2 c κs = search needs
@@ -33,7 +33,7 @@ same-length-2 : tie.Need-same-length-2
 same-length-2 c = search needs
 
 returns-2 : tie.Need-returns-2
-returns-2 c P R cl = let b = c .before .before .before .before .before .before in ends-returned P (b .args .allowed) _ _ _ R (c .before .before .before .before .if1 .left) (c .before .before .put-rest2 .ensures _ R cl (returned-rests _))
+returns-2 c P α R n cl = let b = c .before .before .before .before .before .before in ends-returned P (b .args .allowed) _ α _ _ R (c .before .before .before .before .if1 .left) (c .before .before .put-rest2 .ensures _ R (returned-emptied α _ _ R cl) (returned-rests α _))
 
 pub finish-spec : {M : Type 1} → statement M
 finish-spec =

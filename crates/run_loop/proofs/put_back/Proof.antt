@@ -1,5 +1,5 @@
 use mathlib.Core.Path.{refl}
-use Rattle.spec_machine.specs.Machine.{emptyEnv, val, eval, exec}
+use Rattle.spec_machine.specs.Machine.{val, eval, exec}
 use Rattle.spec_machine.specs.Values.{nothing, int, truth}
 use Rattle.spec_image.specs.Layout.{controlWords}
 use Rattle.spec_image.specs.Decode.{refOf}
@@ -53,35 +53,35 @@ same-length c = search needs
 
 returns : tie.Need-returns
 unfolding controlIs controlWords
-returns c s f η K A R e t = rw (c .before .before .before .before .enum-told .given .1) (c .before .before .store-head .ensures (val nothing) emptyEnv f η K A R e (t .callers) (t .frames) refl)
+returns c s α f η K A R e t = rw (c .before .before .before .before .enum-told .given .1) (c .before .before .store-head .ensures (val nothing) α f η K A R e (t .callers) (t .frames) refl)
 
 same-length-2 : tie.Need-same-length-2
 same-length-2 c = search needs
 
 returns-2 : tie.Need-returns-2
 unfolding controlIs controlWords
-returns-2 c s f η K A R e t = rw (c .before .before .before .before .before .c .given .1) (c .before .before .store-head2 .ensures (val (int _)) emptyEnv f η K A R e (t .callers) (t .frames) refl)
+returns-2 c s α f η K A R e t = rw (c .before .before .before .before .before .c .given .1) (c .before .before .store-head2 .ensures (val (int _)) α f η K A R e (t .callers) (t .frames) refl)
 
 same-length-3 : tie.Need-same-length-3
 same-length-3 c = search needs
 
 returns-3 : tie.Need-returns-3
 unfolding controlIs controlWords
-returns-3 c s f η K A R e t = rw (c .before .before .before .before .before .before .c2 .given .1) (c .before .before .store-head3 .ensures (val (truth _)) emptyEnv f η K A R e (t .callers) (t .frames) (rw (c .before .before .before .bit-of .ensures)))
+returns-3 c s α f η K A R e t = rw (c .before .before .before .before .before .before .c2 .given .1) (c .before .before .store-head3 .ensures (val (truth _)) α f η K A R e (t .callers) (t .frames) (rw (c .before .before .before .bit-of .ensures)))
 
 same-length-4 : tie.Need-same-length-4
 same-length-4 c = search needs
 
 returns-4 : tie.Need-returns-4
 unfolding controlIs controlWords
-returns-4 c s f η K A R e t = rw (c .before .before .before .before .before .c3 .given .1) (c .before .before .store-head4 .ensures (eval _) emptyEnv f η K A R e (t .callers) (t .frames) refl)
+returns-4 c s α f η K A R e t = rw (c .before .before .before .before .before .c3 .given .1) (c .before .before .store-head4 .ensures (eval _) α f η K A R e (t .callers) (t .frames) refl)
 
 same-length-5 : tie.Need-same-length-5
 same-length-5 c = search needs
 
 returns-5 : tie.Need-returns-5
 unfolding controlIs controlWords
-returns-5 c s f η K A R e t = rw (c .before .before .before .before .before .c4 .given .1) (c .before .before .store-head5 .ensures (exec (refOf _)) emptyEnv f η K A R e (t .callers) (t .frames) (rw (ref-word (c .before .before .before .before .before .c4 .given .0 .0))))
+returns-5 c s α f η K A R e t = rw (c .before .before .before .before .before .c4 .given .1) (c .before .before .store-head5 .ensures (exec (refOf _)) α f η K A R e (t .callers) (t .frames) (rw (ref-word (c .before .before .before .before .before .c4 .given .0 .0))))
 
 pub put-back-spec : {M : Type 1} → statement M
 put-back-spec =

@@ -1,5 +1,5 @@
 use Rattle.spec_machine.specs.Program.{Ref}
-use Rattle.spec_machine.specs.Machine.{exec, emptyEnv}
+use Rattle.spec_machine.specs.Machine.{exec}
 use Rattle.run_rules.proofs.Steps.{rebased, within-yes}
 use mathlib.Core.List.{_∷_}
 use native.Mathlib.Omega.{arith}
@@ -20,10 +20,10 @@ same-length c = search needs
 
 returns : tie.Need-returns
 unfolding controlIs refOf
-returns c s f η fr K A R e t x w =
+returns c s α f η fr K A R e t x w =
     let q = c .before .before .before .before .before .before .before .before .before .pre in
-    rebased s _ _ _ _ R _ (within-yes (exec Ref.nop) emptyEnv f η K A (omega (arith, t .callers, q .0 .1)) (omega (arith, t .frames, t .under, q .0 .2)))
-    (c .before .before .take-off .ensures s f _ fr K A R (c .before .before .before .before .before .before .set-variable .ensures f η (fr ∷ K) A R e (t .callers) x w) t)
+    rebased s _ _ _ _ R _ α f _ K A (within-yes (exec Ref.nop) α f η K A (omega (arith, t .callers, q .0 .1)) (omega (arith, t .frames, t .under, q .0 .2)))
+    (c .before .before .take-off .ensures s α f _ fr K A R (c .before .before .before .before .before .before .set-variable .ensures f η (fr ∷ K) A (R α) e (t .callers) x w) t)
 
 pub assign-spec : {M : Type 1} → statement M
 assign-spec = tie.close (tie.spec set-variable-requires take-off-requires same-length returns)

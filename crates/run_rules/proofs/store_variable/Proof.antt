@@ -10,8 +10,8 @@ same-length : tie.Need-same-length
 same-length c = search needs
 
 returns : tie.Need-returns
-returns c s f η K A R e t x w =
-    on s _ _ _ _ R f _ K A (c .before .before .set-variable .ensures f η K A R e (t .callers) x w) t (search needs) (search needs)
+returns c s α f η K A R e t x w =
+    on s _ _ _ _ R α f _ K A (c .before .before .set-variable .ensures f η K A (R α) e (t .callers) x w) t (search needs) (search needs)
 
 pub store-variable-spec : {M : Type 1} → statement M
 store-variable-spec = tie.close (tie.spec set-variable-requires same-length returns)

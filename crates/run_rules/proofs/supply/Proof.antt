@@ -17,9 +17,9 @@ same-length : tie.Need-same-length
 same-length c = search needs
 
 returns : tie.Need-returns
-returns c s f η g vs d ns K A R e t w y z =
+returns c s α f η g vs d ns K A R e t w y z =
     let q = c .before .before .before .before .before .before .before .pre in
-    on s _ _ _ _ R f η _ A (c .before .before .gain .ensures f η g vs d ns K A R e (omega (arith, t .callers, q .0 .1)) (counted-under t _ (omega (arith, q .1))) w y z)
+    on s _ _ _ _ R α f η _ A (c .before .before .gain .ensures f η g vs d ns K A (R α) e (omega (arith, t .callers, q .0 .1)) (counted-under t _ (omega (arith, q .1))) w y z)
     (record { function = t .function; start = t .start; count = t .count; callers = t .callers; frames = t .frames; under = t .under }) (search needs) (search needs)
 
 pub supply-spec : {M : Type 1} → statement M

@@ -17,9 +17,9 @@ same-length : tie.Need-same-length
 same-length c = search needs
 
 returns : tie.Need-returns
-returns c s f η fr K A R e t =
+returns c s α f η fr K A R e t =
     let q = c .before .before .before .before .before .before .before .pre in
-    on s _ _ _ _ R f η K A (c .before .before .pop .ensures f η fr K A R e (omega (arith, t .callers, q .0 .1)) (counted-under t _ (omega (arith, q .1))))
+    on s _ _ _ _ R α f η K A (c .before .before .pop .ensures f η fr K A (R α) e (omega (arith, t .callers, q .0 .1)) (counted-under t _ (omega (arith, q .1))))
     (moved t _ K (omega (arith, t .frames))) (search needs) (omega arith)
 
 pub take-off-spec : {M : Type 1} → statement M

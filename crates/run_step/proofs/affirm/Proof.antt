@@ -30,17 +30,16 @@ same-length c = search needs
 
 returns-2 : tie.Need-returns-2
 unfolding valueIs controlIs refOf
-returns-2 c s p q f η fr K A R e t = rw (c .before .before .before .before .before .before .v .given .1, c .before .before .before .before .if1 .taken) (c .before .before .take-off .ensures s f η fr K A R e t)
+returns-2 c s p q α f η fr K A R e t = rw (c .before .before .before .before .before .before .v .given .1, c .before .before .before .before .if1 .taken) (c .before .before .take-off .ensures s α f η fr K A R e t)
 
 same-length-2 : tie.Need-same-length-2
 same-length-2 c = search needs
 
 returns-3 : tie.Need-returns-3
 unfolding valueIs StepsTo
-returns-3 c s p q f η fr K A R e t =
-    let b = c .before .before .before .before .before .before .before .before .before in
+returns-3 c s p q α f η fr K A R e t =
     rw (c .before .before .before .before .before .before .v .given .1, c .before .before .before .before .if1 .left, c .before .before .raise .ensures .0)
-    (refl, c .before .before .raise .ensures .1 f η (fr ∷ K) A R e (omega (arith, t .callers, b .pre .0 .1)) (omega (arith, b .pre .0 .2, counted t)))
+    (refl, c .before .before .raise .ensures .1)
 
 pub affirm-spec : {M : Type 1} → statement M
 affirm-spec =

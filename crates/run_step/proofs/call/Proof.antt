@@ -27,10 +27,10 @@ same-length : tie.Need-same-length
 same-length c = search needs
 
 returns : tie.Need-returns
-returns c f η K A R e t part p =
+returns c α f η K A R e t part p =
     let b = c .before .before .before .before .before .before .before .before .before .before .before in
     let a = sym (c .before .before .before .before .before .wide .ensures .0 ∙ c .before .before .before .before .before .before .a-at .ensures) ∙ c .before .before .before .before .if1 .taken in
-    none-done _ _ _ _ _ R f η K A _ _ (b .pre .3) a (c .before .before .before .before .before .before .before .b-at .ensures) (c .before .before .enter-none .ensures f η K A R e t (rw (c .before .before .before .before .before .before .before .b-at .ensures) (p ∙ a)))
+    none-done _ _ _ _ _ R α f η K A _ _ (b .pre .3) a (c .before .before .before .before .before .before .before .b-at .ensures) (c .before .before .enter-none .ensures α f η K A R e t (rw (c .before .before .before .before .before .before .before .b-at .ensures) (p ∙ a)))
 
 sub-gather : tie.Need-sub-gather
 sub-gather c = let q = c .before .before .before .before .before .before .before .before .pre in let k = pos (c .before .if1 .left) in q .2 .child (rw (arity-call _ _ (q .3), ← (c .before .before .wide .ensures .0 ∙ c .before .before .before .a-at .ensures)) k)
@@ -48,13 +48,13 @@ same-length-2 : tie.Need-same-length-2
 same-length-2 c = search needs
 
 returns-2 : tie.Need-returns-2
-returns-2 c f η K A R e t part p =
+returns-2 c α f η K A R e t part p =
     let b = c .before .before .before .before .before .before .before .before .before .before .before in
     let q = b .pre in
     let w = c .before .before .before .before .before .wide .ensures .0 ∙ c .before .before .before .before .before .before .a-at .ensures in
     let z = some-walk (sizeAt (b .args .part .now)) (c .before .before .before .before .before .wide .result) (b .args .i - 1) (pos (c .before .before .before .before .if1 .left)) in
-    gather-done _ _ _ _ _ R f η K A _ (fn (c .before .before .before .before .before .before .before .b-at .result)) _ (z .first) (z .rest) (look-call _ _ (q .3) ∙ rw (c .before .before .before .before .before .before .before .b-at .ensures))
-    (arity-call _ _ (q .3) ∙ sym w) part (z .is) (c .before .before .gather .ensures _ f η (fn (c .before .before .before .before .before .before .before .b-at .result)) (z .first) (z .rest) K A R e t (λ x y. waiting-words (fn (c .before .before .before .before .before .before .before .b-at .result)) x y) (z .is))
+    gather-done _ _ _ _ _ R α f η K A _ (fn (c .before .before .before .before .before .before .before .b-at .result)) _ (z .first) (z .rest) (look-call _ _ (q .3) ∙ rw (c .before .before .before .before .before .before .before .b-at .ensures))
+    (arity-call _ _ (q .3) ∙ sym w) part (z .is) (c .before .before .gather .ensures _ α f η (fn (c .before .before .before .before .before .before .before .b-at .result)) (z .first) (z .rest) K A R e t (λ x y. waiting-words (fn (c .before .before .before .before .before .before .before .b-at .result)) x y) (z .is))
 
 pub call-spec : {M : Type 1} → statement M
 call-spec =

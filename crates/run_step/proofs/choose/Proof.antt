@@ -24,14 +24,14 @@ same-length c = search needs
 
 returns-2 : tie.Need-returns-2
 unfolding valueIs
-returns-2 c s p q f η fr K A R e t = rw (c .before .before .before .before .before .before .v .given .1, c .before .before .before .before .if1 .taken) (c .before .before .take-off .ensures s f η fr K A R e t)
+returns-2 c s p q α f η fr K A R e t = rw (c .before .before .before .before .before .before .v .given .1, c .before .before .before .before .if1 .taken) (c .before .before .take-off .ensures s α f η fr K A R e t)
 
 same-length-2 : tie.Need-same-length-2
 same-length-2 c = search needs
 
 returns-3 : tie.Need-returns-3
 unfolding valueIs
-returns-3 c s p q f η fr K A R e t = rw (c .before .before .before .before .before .before .v .given .1, c .before .before .before .before .if1 .left) (c .before .before .take-off2 .ensures s f η fr K A R e t)
+returns-3 c s p q α f η fr K A R e t = rw (c .before .before .before .before .before .before .v .given .1, c .before .before .before .before .if1 .left) (c .before .before .take-off2 .ensures s α f η fr K A R e t)
 
 pub choose-spec : {M : Type 1} → statement M
 choose-spec =

@@ -23,7 +23,7 @@ same-length c = search needs
 
 returns-2 : tie.Need-returns-2
 unfolding valueIs
-returns-2 c f η J A R e t = rw (c .before .before .before .before .before .v .given .1) (depart-main _ _ _ _ _ R f η J A _ e t (c .before .before .before .before .before .before .before .if1 .taken) (λ i k. c .before .before .leave-main .ensures _ f η J R i k))
+returns-2 c α f η J A R e t = rw (c .before .before .before .before .before .v .given .1) (depart-main _ _ _ _ _ R α f η J A _ e t (c .before .before .before .before .before .before .before .if1 .taken) (λ i k. c .before .before .leave-main .ensures _ α f η J R i k))
 
 leave-requires : tie.Need-leave-requires
 leave-requires c κs = let p = c .before .before .before .before .before .pre in let k = pos (c .before .if1 .left) in ((p .0 .0, k, p .0 .1), p .1 .1 k)
@@ -32,7 +32,7 @@ same-length-2 : tie.Need-same-length-2
 same-length-2 c = search needs
 
 returns-3 : tie.Need-returns-3
-returns-3 c f η J A R e t = depart-caller _ _ _ _ _ R f η J A _ e t (c .before .before .before .before .if1 .left) (λ g θ L B i k. c .before .before .leave .ensures f η J g θ L B R i k)
+returns-3 c α f η J A R e t = depart-caller _ _ _ _ _ R α f η J A _ e t (c .before .before .before .before .if1 .left) (λ g θ L B i k. c .before .before .leave .ensures α f η J g θ L B R i k)
 
 pub depart-spec : {M : Type 1} → statement M
 depart-spec =

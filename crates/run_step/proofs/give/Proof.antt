@@ -49,12 +49,12 @@ same-length c = search needs
 
 returns : tie.Need-returns
 unfolding controlIs refOf valueIs
-returns c f η fr K A R e t fit =
+returns c α f η fr K A R e t fit =
     let b = c .before .before .before .before .before .before .before .before .before .before .before .before .before .before .before in
     let x = over (b .args .file .now) (b .args .starts .now) (valueIs (b .args .v)) (b .args .h) (b .args .m .now) (b .pre .0) in
     let p = x .passed in
-    let w = c .before .before .before .before .before .before .before .before .top-frame .ensures f η fr K A R e (omega (arith, limited t fit .0, t .callers)) (counted-under t (b .args .h .frames - 1) (omega (arith, t .frames))) in
-    give-operator _ _ _ _ _ R f η fr K A _ p e t fit _ _ _ (is-operator _ _ w _ _ _ (c .before .before .before .before .before .before .top .given .1)) (c .before .before .before .before .if1 .taken) (λ i j k l n. c .before .before .operate .ensures f η i j K A R k l n)
+    let w = c .before .before .before .before .before .before .before .before .top-frame .ensures f η fr K A (R α) e (omega (arith, limited t fit .0, t .callers)) (counted-under t (b .args .h .frames - 1) (omega (arith, t .frames))) in
+    give-operator _ _ _ _ _ R α f η fr K A _ p e t fit _ _ _ (is-operator _ _ w _ _ _ (c .before .before .before .before .before .before .top .given .1)) (c .before .before .before .before .if1 .taken) (λ i j k l n. c .before .before .operate .ensures α f η i j K A R k l n)
 
 next-operand-requires : tie.Need-next-operand-requires
 unfolding programOf
@@ -84,12 +84,12 @@ same-length-2 c = search needs
 
 returns-2 : tie.Need-returns-2
 unfolding controlIs refOf valueIs
-returns-2 c f η fr K A R e t fit =
+returns-2 c α f η fr K A R e t fit =
     let b = c .before .before .before .before .before .before .before .before .before .before .before .before .before .before .before in
     let x = over (b .args .file .now) (b .args .starts .now) (valueIs (b .args .v)) (b .args .h) (b .args .m .now) (b .pre .0) in
     let p = x .passed in
-    let w = c .before .before .before .before .before .before .before .before .top-frame .ensures f η fr K A R e (omega (arith, limited t fit .0, t .callers)) (counted-under t (b .args .h .frames - 1) (omega (arith, t .frames))) in
-    give-call _ _ _ _ _ R f η fr K A _ p e t fit _ _ _ (is-call _ _ w _ _ _ (c .before .before .before .before .before .before .top2 .given .1)) (c .before .before .before .before .if2 .taken) (λ vs k l n q r. c .before .before .enter .ensures f η _ vs K A R k l n q r)
+    let w = c .before .before .before .before .before .before .before .before .top-frame .ensures f η fr K A (R α) e (omega (arith, limited t fit .0, t .callers)) (counted-under t (b .args .h .frames - 1) (omega (arith, t .frames))) in
+    give-call _ _ _ _ _ R α f η fr K A _ p e t fit _ _ _ (is-call _ _ w _ _ _ (c .before .before .before .before .before .before .top2 .given .1)) (c .before .before .before .before .if2 .taken) (λ vs k l n q r. c .before .before .enter .ensures α f η _ vs K A R k l n q r)
 
 next-operand-requires-2 : tie.Need-next-operand-requires-2
 unfolding programOf
@@ -185,36 +185,36 @@ same-length-3 c = search needs
 
 returns-3 : tie.Need-returns-3
 unfolding controlIs refOf valueIs
-returns-3 c f η fr K A R e t fit =
+returns-3 c α f η fr K A R e t fit =
     let b = c .before .before .before .before .before .before .before .before .before .before .before .before .before .before .before in
     let x = over (b .args .file .now) (b .args .starts .now) (valueIs (b .args .v)) (b .args .h) (b .args .m .now) (b .pre .0) in
     let p = x .passed in
-    let w = c .before .before .before .before .before .before .before .before .top-frame .ensures f η fr K A R e (omega (arith, limited t fit .0, t .callers)) (counted-under t (b .args .h .frames - 1) (omega (arith, t .frames))) in
-    give-next _ _ _ _ _ R f η fr K A _ p e t fit _ _ _ _ (b .pre .1 ∙ ap (partOf (b .args .file .now)) (t .function)) (is-operator _ _ w _ _ _ (c .before .before .before .before .before .before .top .given .1)) (c .before .before .before .before .if1 .left) (λ vs d ns k l n q r. c .before .before .next-operand .ensures _ f η _ vs d ns K A R k l n q r)
+    let w = c .before .before .before .before .before .before .before .before .top-frame .ensures f η fr K A (R α) e (omega (arith, limited t fit .0, t .callers)) (counted-under t (b .args .h .frames - 1) (omega (arith, t .frames))) in
+    give-next _ _ _ _ _ R α f η fr K A _ p e t fit _ _ _ _ (b .pre .1 ∙ ap (partOf (b .args .file .now)) (t .function)) (is-operator _ _ w _ _ _ (c .before .before .before .before .before .before .top .given .1)) (c .before .before .before .before .if1 .left) (λ vs d ns k l n q r. c .before .before .next-operand .ensures _ α f η _ vs d ns K A R k l n q r)
 
 same-length-4 : tie.Need-same-length-4
 same-length-4 c = search needs
 
 returns-4 : tie.Need-returns-4
 unfolding controlIs refOf valueIs
-returns-4 c f η fr K A R e t fit =
+returns-4 c α f η fr K A R e t fit =
     let b = c .before .before .before .before .before .before .before .before .before .before .before .before .before .before .before in
     let x = over (b .args .file .now) (b .args .starts .now) (valueIs (b .args .v)) (b .args .h) (b .args .m .now) (b .pre .0) in
     let p = x .passed in
-    let w = c .before .before .before .before .before .before .before .before .top-frame .ensures f η fr K A R e (omega (arith, limited t fit .0, t .callers)) (counted-under t (b .args .h .frames - 1) (omega (arith, t .frames))) in
-    give-next _ _ _ _ _ R f η fr K A _ p e t fit _ _ _ _ (b .pre .1 ∙ ap (partOf (b .args .file .now)) (t .function)) (is-call _ _ w _ _ _ (c .before .before .before .before .before .before .top2 .given .1)) (c .before .before .before .before .if2 .left) (λ vs d ns k l n q r. c .before .before .next-operand2 .ensures _ f η _ vs d ns K A R k l n q r)
+    let w = c .before .before .before .before .before .before .before .before .top-frame .ensures f η fr K A (R α) e (omega (arith, limited t fit .0, t .callers)) (counted-under t (b .args .h .frames - 1) (omega (arith, t .frames))) in
+    give-next _ _ _ _ _ R α f η fr K A _ p e t fit _ _ _ _ (b .pre .1 ∙ ap (partOf (b .args .file .now)) (t .function)) (is-call _ _ w _ _ _ (c .before .before .before .before .before .before .top2 .given .1)) (c .before .before .before .before .if2 .left) (λ vs d ns k l n q r. c .before .before .next-operand2 .ensures _ α f η _ vs d ns K A R k l n q r)
 
 same-length-5 : tie.Need-same-length-5
 same-length-5 c = search needs
 
 returns-5 : tie.Need-returns-5
 unfolding controlIs refOf valueIs
-returns-5 c f η fr K A R e t fit =
+returns-5 c α f η fr K A R e t fit =
     let b = c .before .before .before .before .before .before .before .before .before .before .before .before .before .before .before in
     let x = over (b .args .file .now) (b .args .starts .now) (valueIs (b .args .v)) (b .args .h) (b .args .m .now) (b .pre .0) in
     let p = x .passed in
-    let w = c .before .before .before .before .before .before .before .before .top-frame .ensures f η fr K A R e (omega (arith, limited t fit .0, t .callers)) (counted-under t (b .args .h .frames - 1) (omega (arith, t .frames))) in
-    give-and _ _ _ _ _ R f η fr K A _ p e t fit _ _ (b .pre .1 ∙ ap (partOf (b .args .file .now)) (t .function)) (is-and _ _ w _ (c .before .before .before .before .before .before .top3 .given .1)) (rw (← (c .before .before .before .before .reach .ensures)) (c .before .before .choose .ensures _ Rule.and-true Rule.and-false f η fr K A R e t))
+    let w = c .before .before .before .before .before .before .before .before .top-frame .ensures f η fr K A (R α) e (omega (arith, limited t fit .0, t .callers)) (counted-under t (b .args .h .frames - 1) (omega (arith, t .frames))) in
+    give-and _ _ _ _ _ R α f η fr K A _ p e t fit _ _ (b .pre .1 ∙ ap (partOf (b .args .file .now)) (t .function)) (is-and _ _ w _ (c .before .before .before .before .before .before .top3 .given .1)) (rw (← (c .before .before .before .before .reach .ensures)) (c .before .before .choose .ensures _ Rule.and-true Rule.and-false α f η fr K A R e t))
 
 same-length-6 : tie.Need-same-length-6
 same-length-6 c = search needs
@@ -227,60 +227,60 @@ same-length-7 c = search needs
 
 returns-7 : tie.Need-returns-7
 unfolding controlIs refOf valueIs
-returns-7 c f η fr K A R e t fit =
+returns-7 c α f η fr K A R e t fit =
     let b = c .before .before .before .before .before .before .before .before .before .before .before .before .before .before in
     let x = over (b .args .file .now) (b .args .starts .now) (valueIs (b .args .v)) (b .args .h) (b .args .m .now) (b .pre .0) in
     let p = x .passed in
-    let w = c .before .before .before .before .before .before .before .top-frame .ensures f η fr K A R e (omega (arith, limited t fit .0, t .callers)) (counted-under t (b .args .h .frames - 1) (omega (arith, t .frames))) in
-    give-store _ _ _ _ _ R f η fr K A _ p e t fit _ (is-store _ _ w _ (c .before .before .before .before .before .top5 .given .1)) (λ i j. c .before .before .assign .ensures _ f η fr K A R e t i j)
+    let w = c .before .before .before .before .before .before .before .top-frame .ensures f η fr K A (R α) e (omega (arith, limited t fit .0, t .callers)) (counted-under t (b .args .h .frames - 1) (omega (arith, t .frames))) in
+    give-store _ _ _ _ _ R α f η fr K A _ p e t fit _ (is-store _ _ w _ (c .before .before .before .before .before .top5 .given .1)) (λ i j. c .before .before .assign .ensures _ α f η fr K A R e t i j)
 
 same-length-8 : tie.Need-same-length-8
 same-length-8 c = search needs
 
 returns-8 : tie.Need-returns-8
 unfolding controlIs refOf valueIs
-returns-8 c f η fr K A R e t fit =
+returns-8 c α f η fr K A R e t fit =
     let b = c .before .before .before .before .before .before .before .before .before .before .before .before .before .before in
     let x = over (b .args .file .now) (b .args .starts .now) (valueIs (b .args .v)) (b .args .h) (b .args .m .now) (b .pre .0) in
     let p = x .passed in
-    let w = c .before .before .before .before .before .before .before .top-frame .ensures f η fr K A R e (omega (arith, limited t fit .0, t .callers)) (counted-under t (b .args .h .frames - 1) (omega (arith, t .frames))) in
-    give-branch _ _ _ _ _ R f η fr K A _ p e t fit _ _ (is-branch _ _ w _ _ (c .before .before .before .before .before .top6 .given .1)) (c .before .before .choose2 .ensures _ Rule.if-true Rule.if-false f η fr K A R e t)
+    let w = c .before .before .before .before .before .before .before .top-frame .ensures f η fr K A (R α) e (omega (arith, limited t fit .0, t .callers)) (counted-under t (b .args .h .frames - 1) (omega (arith, t .frames))) in
+    give-branch _ _ _ _ _ R α f η fr K A _ p e t fit _ _ (is-branch _ _ w _ _ (c .before .before .before .before .before .top6 .given .1)) (c .before .before .choose2 .ensures _ Rule.if-true Rule.if-false α f η fr K A R e t)
 
 same-length-9 : tie.Need-same-length-9
 same-length-9 c = search needs
 
 returns-9 : tie.Need-returns-9
 unfolding controlIs refOf valueIs
-returns-9 c f η fr K A R e t fit =
+returns-9 c α f η fr K A R e t fit =
     let b = c .before .before .before .before .before .before .before .before .before .before .before .before .before in
     let x = over (b .args .file .now) (b .args .starts .now) (valueIs (b .args .v)) (b .args .h) (b .args .m .now) (b .pre .0) in
     let p = x .passed in
-    let w = c .before .before .before .before .before .before .top-frame .ensures f η fr K A R e (omega (arith, limited t fit .0, t .callers)) (counted-under t (b .args .h .frames - 1) (omega (arith, t .frames))) in
-    give-leave _ _ _ _ _ R f η fr K A _ p e t fit (is-leave _ _ w (c .before .before .before .before .enum-told .given .1)) (c .before .before .depart .ensures f η _ A R e t)
+    let w = c .before .before .before .before .before .before .top-frame .ensures f η fr K A (R α) e (omega (arith, limited t fit .0, t .callers)) (counted-under t (b .args .h .frames - 1) (omega (arith, t .frames))) in
+    give-leave _ _ _ _ _ R α f η fr K A _ p e t fit (is-leave _ _ w (c .before .before .before .before .enum-told .given .1)) (c .before .before .depart .ensures α f η _ A R e t)
 
 same-length-10 : tie.Need-same-length-10
 same-length-10 c = search needs
 
 returns-10 : tie.Need-returns-10
 unfolding controlIs refOf valueIs
-returns-10 c f η fr K A R e t fit =
+returns-10 c α f η fr K A R e t fit =
     let b = c .before .before .before .before .before .before .before .before .before .before .before .before .before in
     let x = over (b .args .file .now) (b .args .starts .now) (valueIs (b .args .v)) (b .args .h) (b .args .m .now) (b .pre .0) in
     let p = x .passed in
-    let w = c .before .before .before .before .before .before .top-frame .ensures f η fr K A R e (omega (arith, limited t fit .0, t .callers)) (counted-under t (b .args .h .frames - 1) (omega (arith, t .frames))) in
-    give-assert _ _ _ _ _ R f η fr K A _ p e t fit (is-assert _ _ w (c .before .before .before .before .enum-told2 .given .1)) (c .before .before .affirm .ensures _ Rule.assert-true Rule.assert-false f η fr K A R e t)
+    let w = c .before .before .before .before .before .before .top-frame .ensures f η fr K A (R α) e (omega (arith, limited t fit .0, t .callers)) (counted-under t (b .args .h .frames - 1) (omega (arith, t .frames))) in
+    give-assert _ _ _ _ _ R α f η fr K A _ p e t fit (is-assert _ _ w (c .before .before .before .before .enum-told2 .given .1)) (c .before .before .affirm .ensures _ Rule.assert-true Rule.assert-false α f η fr K A R e t)
 
 same-length-11 : tie.Need-same-length-11
 same-length-11 c = search needs
 
 returns-11 : tie.Need-returns-11
 unfolding controlIs refOf valueIs
-returns-11 c f η fr K A R e t fit =
+returns-11 c α f η fr K A R e t fit =
     let b = c .before .before .before .before .before .before .before .before .before .before .before .before .before in
     let x = over (b .args .file .now) (b .args .starts .now) (valueIs (b .args .v)) (b .args .h) (b .args .m .now) (b .pre .0) in
     let p = x .passed in
-    let w = c .before .before .before .before .before .before .top-frame .ensures f η fr K A R e (omega (arith, limited t fit .0, t .callers)) (counted-under t (b .args .h .frames - 1) (omega (arith, t .frames))) in
-    give-discard _ _ _ _ _ R f η fr K A _ p e t fit (is-discard _ _ w (c .before .before .before .before .enum-told3 .given .1)) (c .before .before .take-off .ensures _ f η fr K A R e t)
+    let w = c .before .before .before .before .before .before .top-frame .ensures f η fr K A (R α) e (omega (arith, limited t fit .0, t .callers)) (counted-under t (b .args .h .frames - 1) (omega (arith, t .frames))) in
+    give-discard _ _ _ _ _ R α f η fr K A _ p e t fit (is-discard _ _ w (c .before .before .before .before .enum-told3 .given .1)) (c .before .before .take-off .ensures _ α f η fr K A R e t)
 
 pub give-spec : {M : Type 1} → statement M
 give-spec =

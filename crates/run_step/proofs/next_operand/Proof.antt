@@ -41,13 +41,13 @@ same-length c = search needs
 
 returns : tie.Need-returns
 unfolding frameAt
-returns c s f η g vs e ns K A R held t few y z =
+returns c s α f η g vs e ns K A R held t few y z =
     let b = c .before .before .before .before .before .before .before .before .before .before .before in
     let u = counted-under t (b .args .h .frames - 1) (omega (arith, b .pre .0 .1)) in
     let w : c .before .before .before .before .before .frame-word .result ≡ e = c .before .before .before .before .before .frame-word .ensures
-    ∙ rw held (read-node f η K A R _ _ (omega (arith, t .callers, b .pre .0 .0 .1)) u refl g vs (e ∷ ns) few 0 _ (omega arith) (omega (arith, y))) in
+    ∙ rw held (read-node f η K A (R α) _ _ (omega (arith, t .callers, b .pre .0 .0 .1)) u refl g vs (e ∷ ns) few 0 _ (omega arith) (omega (arith, y))) in
     rw (← (c .before .before .before .reach .ensures ∙ ap (λ (i : ℕ). reachL i (lookAt (b .args .part .now) i)) w))
-    (c .before .before .supply .ensures s f η g vs e ns K A R held t few y (omega arith))
+    (c .before .before .supply .ensures s α f η g vs e ns K A R held t few y (omega arith))
 
 pub next-operand-spec : {M : Type 1} → statement M
 next-operand-spec =

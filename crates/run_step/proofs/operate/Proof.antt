@@ -71,37 +71,37 @@ same-length-2 c = search needs
 
 returns-3 : tie.Need-returns-3
 unfolding slotAt valueIs controlIs
-returns-3 c f η a b K A R e t i =
+returns-3 c α f η a b K A R e t i =
     let z = c .before .before .before .before .before .before .before .before .before .before .before .before .before .before .before .before .before .before .before .before in
     let u = counted-under t (z .args .h .frames - 1) (omega (arith, z .pre .0 .1)) in
-    settled-int _ _ _ _ R f η K A _ _ a b _ _
-    (stored _ _ f η _ a K A R _ _ e (omega (arith, t .callers, z .pre .0 .0 .1)) u (c .before .before .before .before .before .before .before .before .before .before .before .slot-value .ensures) (c .before .before .before .before .before .before .before .before .before .a .given .1))
-    (hand _ _ b (c .before .before .before .before .before .before .before .before .before .before .before .before .before .before .before .before .v .given .1) i) _ (sym (c .before .before .before .before .before .before .before .apply .ensures) ∙ c .before .before .before .before .before .word .given .1) (c .before .before .take-off .ensures _ f η _ K A R e t)
+    settled-int _ _ _ _ R α f η K A _ _ a b _ _
+    (stored _ _ f η _ a K A (R α) _ _ e (omega (arith, t .callers, z .pre .0 .0 .1)) u (c .before .before .before .before .before .before .before .before .before .before .before .slot-value .ensures) (c .before .before .before .before .before .before .before .before .before .a .given .1))
+    (hand _ _ b (c .before .before .before .before .before .before .before .before .before .before .before .before .before .before .before .before .v .given .1) i) _ (sym (c .before .before .before .before .before .before .before .apply .ensures) ∙ c .before .before .before .before .before .word .given .1) (c .before .before .take-off .ensures _ α f η _ K A R e t)
 
 same-length-3 : tie.Need-same-length-3
 same-length-3 c = search needs
 
 returns-4 : tie.Need-returns-4
 unfolding slotAt valueIs controlIs
-returns-4 c f η a b K A R e t i =
+returns-4 c α f η a b K A R e t i =
     let z = c .before .before .before .before .before .before .before .before .before .before .before .before .before .before .before .before .before .before .before .before in
     let u = counted-under t (z .args .h .frames - 1) (omega (arith, z .pre .0 .1)) in
-    settled-truth _ _ _ _ R f η K A _ _ a b _ _
-    (stored _ _ f η _ a K A R _ _ e (omega (arith, t .callers, z .pre .0 .0 .1)) u (c .before .before .before .before .before .before .before .before .before .before .before .slot-value .ensures) (c .before .before .before .before .before .before .before .before .before .a .given .1))
-    (hand _ _ b (c .before .before .before .before .before .before .before .before .before .before .before .before .before .before .before .before .v .given .1) i) _ (sym (c .before .before .before .before .before .before .before .apply .ensures) ∙ c .before .before .before .before .before .truth .given .1) (c .before .before .take-off2 .ensures _ f η _ K A R e t)
+    settled-truth _ _ _ _ R α f η K A _ _ a b _ _
+    (stored _ _ f η _ a K A (R α) _ _ e (omega (arith, t .callers, z .pre .0 .0 .1)) u (c .before .before .before .before .before .before .before .before .before .before .before .slot-value .ensures) (c .before .before .before .before .before .before .before .before .before .a .given .1))
+    (hand _ _ b (c .before .before .before .before .before .before .before .before .before .before .before .before .before .before .before .before .v .given .1) i) _ (sym (c .before .before .before .before .before .before .before .apply .ensures) ∙ c .before .before .before .before .before .truth .given .1) (c .before .before .take-off2 .ensures _ α f η _ K A R e t)
 
 same-length-4 : tie.Need-same-length-4
 same-length-4 c = search needs
 
 returns-5 : tie.Need-returns-5
 unfolding slotAt StepsTo
-returns-5 c f η a b K A R e t i =
+returns-5 c α f η a b K A R e t i =
     let z = c .before .before .before .before .before .before .before .before .before .before .before .before .before .before .before .before .before .before .before in
     let u = counted-under t (z .args .h .frames - 1) (omega (arith, z .pre .0 .1)) in
-    settled-arith _ _ _ _ R f η K A _ _ a b _ _
-    (stored _ _ f η _ a K A R _ _ e (omega (arith, t .callers, z .pre .0 .0 .1)) u (c .before .before .before .before .before .before .before .before .before .before .slot-value .ensures) (c .before .before .before .before .before .before .before .before .a .given .1))
+    settled-arith _ _ _ _ R α f η K A _ _ a b _ _
+    (stored _ _ f η _ a K A (R α) _ _ e (omega (arith, t .callers, z .pre .0 .0 .1)) u (c .before .before .before .before .before .before .before .before .before .before .slot-value .ensures) (c .before .before .before .before .before .before .before .before .a .given .1))
     (hand _ _ b (c .before .before .before .before .before .before .before .before .before .before .before .before .before .before .before .v .given .1) i) (sym (c .before .before .before .before .before .before .apply .ensures) ∙ c .before .before .before .before .enum-told .given .1)
-    (rw (c .before .before .raise .ensures .0) (refl, c .before .before .raise .ensures .1 f η _ A R e (omega (arith, t .callers, z .pre .0 .0 .1)) (omega (arith, z .pre .0 .0 .2, counted t))))
+    (rw (c .before .before .raise .ensures .0) (refl, c .before .before .raise .ensures .1))
 
 pub operate-spec : {M : Type 1} → statement M
 operate-spec =

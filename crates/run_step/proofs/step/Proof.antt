@@ -41,7 +41,7 @@ same-length : tie.Need-same-length
 same-length c = search needs
 
 returns : tie.Need-returns
-returns c f η K A R e t fit = let b = c .before .before .before .before .before .before .before .before .before .before .before in eval-done _ _ _ _ _ R f η K A _ _ _ (c .before .before .before .before .before .c3 .given .1) t (cut (b .args .file .now) (b .args .starts .now) (controlIs (b .args .c)) (b .args .h) (b .args .m .now) (b .pre .0)) fit (λ i k. c .before .before .«open» .ensures f η K A R e t (b .pre .0 .passed) i k)
+returns c α f η K A R e t fit = let b = c .before .before .before .before .before .before .before .before .before .before .before in eval-done _ _ _ _ _ R α f η K A _ _ _ (c .before .before .before .before .before .c3 .given .1) t (cut (b .args .file .now) (b .args .starts .now) (controlIs (b .args .c)) (b .args .h) (b .args .m .now) (b .pre .0)) fit (λ i k. c .before .before .«open» .ensures α f η K A R e t (b .pre .0 .passed) i k)
 
 enum-known-c-4 : tie.Need-enum-known-c-4
 enum-known-c-4 c = search needs
@@ -53,7 +53,7 @@ same-length-2 : tie.Need-same-length-2
 same-length-2 c = search needs
 
 returns-2 : tie.Need-returns-2
-returns-2 c f η K A R e t fit = let b = c .before .before .before .before .before .before .before .before .before .before .before in exec-done _ _ _ _ _ R f η K A _ _ _ (c .before .before .before .before .before .c4 .given .1) t (cut (b .args .file .now) (b .args .starts .now) (controlIs (b .args .c)) (b .args .h) (b .args .m .now) (b .pre .0)) fit (λ i k. c .before .before .execute .ensures _ f η K A R e t (b .pre .0 .passed) i k)
+returns-2 c α f η K A R e t fit = let b = c .before .before .before .before .before .before .before .before .before .before .before in exec-done _ _ _ _ _ R α f η K A _ _ _ (c .before .before .before .before .before .c4 .given .1) t (cut (b .args .file .now) (b .args .starts .now) (controlIs (b .args .c)) (b .args .h) (b .args .m .now) (b .pre .0)) fit (λ i k. c .before .before .execute .ensures _ α f η K A R e t (b .pre .0 .passed) i k)
 
 give-requires : tie.Need-give-requires
 give-requires c κs = let b = c .before .before .before .before .before .before in (at-fit-val _ _ _ _ _ _ (⊎-elim (λ x. nothing-hand _ _ (x .1 .given .1) (x .2)) (⊎-elim (λ x. int-hand _ _ _ (x .1 .given .1) (x .3)) (λ x. truth-hand _ _ _ (x .1 .given .1) (x .3))) (c .before .match .came)) (b .pre .0), (cut (b .args .file .now) (b .args .starts .now) (controlIs (b .args .c)) (b .args .h) (b .args .m .now) (b .pre .0)), b .pre .1)
@@ -62,7 +62,7 @@ same-length-3 : tie.Need-same-length-3
 same-length-3 c = search needs
 
 returns-3 : tie.Need-returns-3
-returns-3 c f η K A R e t fit = val-done _ _ _ _ _ R f η K A _ _ (⊎-elim (λ x. nothing-hand _ _ (x .1 .given .1) (x .2)) (⊎-elim (λ x. int-hand _ _ _ (x .1 .given .1) (x .3)) (λ x. truth-hand _ _ _ (x .1 .given .1) (x .3))) (c .before .before .before .before .match .came)) e t fit (λ fr L i j k. c .before .before .give .ensures f η fr L A R i j k)
+returns-3 c α f η K A R e t fit = val-done _ _ _ _ _ R α f η K A _ _ (⊎-elim (λ x. nothing-hand _ _ (x .1 .given .1) (x .2)) (⊎-elim (λ x. int-hand _ _ _ (x .1 .given .1) (x .3)) (λ x. truth-hand _ _ _ (x .1 .given .1) (x .3))) (c .before .before .before .before .match .came)) e t fit (λ fr L i j k. c .before .before .give .ensures α f η fr L A R i j k)
 
 pub step-spec : {M : Type 1} → statement M
 step-spec =

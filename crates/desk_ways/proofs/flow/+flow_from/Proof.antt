@@ -1,6 +1,5 @@
 use mathlib.Core.Path.{refl, sym, _∙_}
 use native.Mathlib.Omega.{arith}
-use lib.Dec.{lit<, lit≤}
 use borrow.Author.Needs.{needs}
 use Rattle.spec_language.specs.Scopes.{usesVariable}
 use Rattle.spec_language.specs.Known.{namesVariable}
@@ -44,16 +43,16 @@ flow-from-kind-at-requires : (t : ℕ) → flow-from-lts.Need-kind-at-requires (
 flow-from-kind-at-requires t c κs = search needs
 
 flow-from-sub-b : (t : ℕ) → flow-from-lts.Need-sub-b (claims t) (flow-from-at t) flow-from.Post
-flow-from-sub-b t c = inner 7 (c .before .before .before .pre .1 .1) (search needs) (sym (c .before .kind-at .ensures) ∙ c .match .keys1) (lit≤ tt) (lit< tt)
+flow-from-sub-b t c = inner 7 (c .before .before .before .pre .1 .1) (search needs) (sym (c .before .kind-at .ensures) ∙ c .match .keys1) refl
 
 flow-from-prior-requires : (t : ℕ) → flow-from-lts.Need-prior-requires (claims t) (flow-from-at t) flow-from.Post
 flow-from-prior-requires t c κs = search needs
 
 flow-from-flow-from-requires : (t : ℕ) → flow-from-lts.Need-flow-from-requires (claims t) (flow-from-at t) flow-from.Post
-flow-from-flow-from-requires t c κs = descend (c .before .before .before .before .pre) (omega (arith, inner 7 (c .before .before .before .before .pre .1 .1) (search needs) (sym (c .before .before .kind-at .ensures) ∙ c .before .match .keys1) (lit≤ tt) (lit< tt)))
+flow-from-flow-from-requires t c κs = descend (c .before .before .before .before .pre) (omega (arith, inner 7 (c .before .before .before .before .pre .1 .1) (search needs) (sym (c .before .before .kind-at .ensures) ∙ c .before .match .keys1) refl))
 
 flow-from-flow-from-requires-2 : (t : ℕ) → flow-from-lts.Need-flow-from-requires-2 (claims t) (flow-from-at t) flow-from.Post
-flow-from-flow-from-requires-2 t c κs = descend (c .before .before .before .before .before .before .pre) (omega (arith, inner 7 (c .before .before .before .before .before .before .pre .1 .1) (search needs) (sym (c .before .before .before .before .kind-at .ensures) ∙ c .before .before .before .match .keys1) (lit≤ tt) (lit< tt)))
+flow-from-flow-from-requires-2 t c κs = descend (c .before .before .before .before .before .before .pre) (omega (arith, inner 7 (c .before .before .before .before .before .before .pre .1 .1) (search needs) (sym (c .before .before .before .before .kind-at .ensures) ∙ c .before .before .before .match .keys1) refl))
 
 flow-from-in-sequence-requires : (t : ℕ) → flow-from-lts.Need-in-sequence-requires (claims t) (flow-from-at t) flow-from.Post
 flow-from-in-sequence-requires t c κs = search needs
@@ -76,35 +75,35 @@ unfolding namesVariable usesVariable
 flow-from-remove-requires t c κs = rw (c .b-at2 .ensures) (named 9 (c .before .before .before .before .pre .1 .1) (search needs) (sym (c .before .before .kind-at .ensures) ∙ c .before .match .keys3) refl)
 
 flow-from-sub-flow-from : (t : ℕ) → flow-from-lts.Need-sub-flow-from (claims t) (flow-from-at t) flow-from.Post
-flow-from-sub-flow-from t c = inner 9 (c .before .before .before .before .before .pre .1 .1) (search needs) (sym (c .before .before .before .kind-at .ensures) ∙ c .before .before .match .keys3) (lit≤ tt) (lit< tt)
+flow-from-sub-flow-from t c = inner 9 (c .before .before .before .before .before .pre .1 .1) (search needs) (sym (c .before .before .before .kind-at .ensures) ∙ c .before .before .match .keys3) refl
 
 flow-from-flow-from-requires-3 : (t : ℕ) → flow-from-lts.Need-flow-from-requires-3 (claims t) (flow-from-at t) flow-from.Post
-flow-from-flow-from-requires-3 t c κs = descend (c .before .before .before .before .before .pre) (omega (arith, inner 9 (c .before .before .before .before .before .pre .1 .1) (search needs) (sym (c .before .before .before .kind-at .ensures) ∙ c .before .before .match .keys3) (lit≤ tt) (lit< tt)))
+flow-from-flow-from-requires-3 t c κs = descend (c .before .before .before .before .before .pre) (omega (arith, inner 9 (c .before .before .before .before .before .pre .1 .1) (search needs) (sym (c .before .before .before .kind-at .ensures) ∙ c .before .before .match .keys3) refl))
 
 flow-from-in-scope-requires : (t : ℕ) → flow-from-lts.Need-in-scope-requires (claims t) (flow-from-at t) flow-from.Post
 unfolding namesVariable usesVariable
 flow-from-in-scope-requires t c κs = rw (c .before .before .b-at2 .ensures) (named 9 (c .before .before .before .before .before .before .pre .1 .1) (search needs) (sym (c .before .before .before .before .kind-at .ensures) ∙ c .before .before .before .match .keys3) refl)
 
 flow-from-sub-b-2 : (t : ℕ) → flow-from-lts.Need-sub-b-2 (claims t) (flow-from-at t) flow-from.Post
-flow-from-sub-b-2 t c = inner 10 (c .before .before .before .pre .1 .1) (search needs) (sym (c .before .kind-at .ensures) ∙ c .match .keys4) (lit≤ tt) (lit< tt)
+flow-from-sub-b-2 t c = inner 10 (c .before .before .before .pre .1 .1) (search needs) (sym (c .before .kind-at .ensures) ∙ c .match .keys4) refl
 
 flow-from-prior-requires-2 : (t : ℕ) → flow-from-lts.Need-prior-requires-2 (claims t) (flow-from-at t) flow-from.Post
 flow-from-prior-requires-2 t c κs = search needs
 
 flow-from-flow-from-requires-4 : (t : ℕ) → flow-from-lts.Need-flow-from-requires-4 (claims t) (flow-from-at t) flow-from.Post
-flow-from-flow-from-requires-4 t c κs = descend (c .before .before .before .before .pre) (omega (arith, inner 10 (c .before .before .before .before .pre .1 .1) (search needs) (sym (c .before .before .kind-at .ensures) ∙ c .before .match .keys4) (lit≤ tt) (lit< tt)))
+flow-from-flow-from-requires-4 t c κs = descend (c .before .before .before .before .pre) (omega (arith, inner 10 (c .before .before .before .before .pre .1 .1) (search needs) (sym (c .before .before .kind-at .ensures) ∙ c .before .match .keys4) refl))
 
 flow-from-flow-from-requires-5 : (t : ℕ) → flow-from-lts.Need-flow-from-requires-5 (claims t) (flow-from-at t) flow-from.Post
-flow-from-flow-from-requires-5 t c κs = descend (c .before .before .before .before .before .pre) (omega (arith, inner 10 (c .before .before .before .before .before .pre .1 .1) (search needs) (sym (c .before .before .before .kind-at .ensures) ∙ c .before .before .match .keys4) (lit≤ tt) (lit< tt)))
+flow-from-flow-from-requires-5 t c κs = descend (c .before .before .before .before .before .pre) (omega (arith, inner 10 (c .before .before .before .before .before .pre .1 .1) (search needs) (sym (c .before .before .before .kind-at .ensures) ∙ c .before .before .match .keys4) refl))
 
 flow-from-in-branches-requires : (t : ℕ) → flow-from-lts.Need-in-branches-requires (claims t) (flow-from-at t) flow-from.Post
 flow-from-in-branches-requires t c κs = search needs
 
 flow-from-sub-flow-from-2 : (t : ℕ) → flow-from-lts.Need-sub-flow-from-2 (claims t) (flow-from-at t) flow-from.Post
-flow-from-sub-flow-from-2 t c = inner 11 (c .before .before .before .pre .1 .1) (search needs) (sym (c .before .kind-at .ensures) ∙ c .match .keys5) (lit≤ tt) (lit< tt)
+flow-from-sub-flow-from-2 t c = inner 11 (c .before .before .before .pre .1 .1) (search needs) (sym (c .before .kind-at .ensures) ∙ c .match .keys5) refl
 
 flow-from-flow-from-requires-6 : (t : ℕ) → flow-from-lts.Need-flow-from-requires-6 (claims t) (flow-from-at t) flow-from.Post
-flow-from-flow-from-requires-6 t c κs = descend (c .before .before .before .pre) (omega (arith, inner 11 (c .before .before .before .pre .1 .1) (search needs) (sym (c .before .kind-at .ensures) ∙ c .match .keys5) (lit≤ tt) (lit< tt)))
+flow-from-flow-from-requires-6 t c κs = descend (c .before .before .before .pre) (omega (arith, inner 11 (c .before .before .before .pre .1 .1) (search needs) (sym (c .before .kind-at .ensures) ∙ c .match .keys5) refl))
 
 flow-from-in-loop-requires : (t : ℕ) → flow-from-lts.Need-in-loop-requires (claims t) (flow-from-at t) flow-from.Post
 flow-from-in-loop-requires t c κs = search needs
@@ -122,22 +121,22 @@ flow-from-plain-requires-3 : (t : ℕ) → flow-from-lts.Need-plain-requires-3 (
 flow-from-plain-requires-3 t c κs = search needs
 
 flow-from-returns : (t : ℕ) → flow-from-lts.Need-returns (claims t) (flow-from-at t) flow-from.Post
-flow-from-returns t c = follows-seq (c .before .before .before .before .before .before .before .before .args .part .now) (c .before .before .before .before .before .before .before .before .args .i) (sym (c .before .before .before .before .before .before .kind-at .ensures) ∙ c .before .before .before .before .before .match .keys1) (inner 7 (c .before .before .before .before .before .before .before .before .pre .1 .1) (search needs) (sym (c .before .before .before .before .before .before .kind-at .ensures) ∙ c .before .before .before .before .before .match .keys1) (lit≤ tt) (lit< tt)) (c .before .before .before .before .prior .ensures) (c .in-sequence .ensures) (c .before .before .before .flow-from .ensures) (c .before .flow-from2 .ensures)
+flow-from-returns t c = follows-seq (c .before .before .before .before .before .before .before .before .args .part .now) (c .before .before .before .before .before .before .before .before .args .i) (sym (c .before .before .before .before .before .before .kind-at .ensures) ∙ c .before .before .before .before .before .match .keys1) (inner 7 (c .before .before .before .before .before .before .before .before .pre .1 .1) (search needs) (sym (c .before .before .before .before .before .before .kind-at .ensures) ∙ c .before .before .before .before .before .match .keys1) refl) (c .before .before .before .before .prior .ensures) (c .in-sequence .ensures) (c .before .before .before .flow-from .ensures) (c .before .flow-from2 .ensures)
 
 flow-from-returns-2 : (t : ℕ) → flow-from-lts.Need-returns-2 (claims t) (flow-from-at t) flow-from.Post
-flow-from-returns-2 t c = follows-assign (c .before .before .before .before .before .before .args .part .now) (c .before .before .before .before .before .before .args .i) (sym (c .before .before .before .before .kind-at .ensures) ∙ c .before .before .before .match .keys2) (inner 8 (c .before .before .before .before .before .before .pre .1 .1) (search needs) (sym (c .before .before .before .before .kind-at .ensures) ∙ c .before .before .before .match .keys2) (lit≤ tt) (lit< tt)) (c .before .before .b-at .ensures) (c .plain .ensures) (c .before .insert .ensures)
+flow-from-returns-2 t c = follows-assign (c .before .before .before .before .before .before .args .part .now) (c .before .before .before .before .before .before .args .i) (sym (c .before .before .before .before .kind-at .ensures) ∙ c .before .before .before .match .keys2) (inner 8 (c .before .before .before .before .before .before .pre .1 .1) (search needs) (sym (c .before .before .before .before .kind-at .ensures) ∙ c .before .before .before .match .keys2) refl) (c .before .before .b-at .ensures) (c .plain .ensures) (c .before .insert .ensures)
 
 flow-from-returns-3 : (t : ℕ) → flow-from-lts.Need-returns-3 (claims t) (flow-from-at t) flow-from.Post
-flow-from-returns-3 t c = follows-decl (c .before .before .before .before .before .before .before .args .part .now) (c .before .before .before .before .before .before .before .args .i) (sym (c .before .before .before .before .before .kind-at .ensures) ∙ c .before .before .before .before .match .keys3) (inner 9 (c .before .before .before .before .before .before .before .pre .1 .1) (search needs) (sym (c .before .before .before .before .before .kind-at .ensures) ∙ c .before .before .before .before .match .keys3) (lit≤ tt) (lit< tt)) (c .before .before .before .b-at2 .ensures) (c .in-scope .ensures) (rw (c .before .before .remove .ensures) at (c .before .flow-from3 .ensures))
+flow-from-returns-3 t c = follows-decl (c .before .before .before .before .before .before .before .args .part .now) (c .before .before .before .before .before .before .before .args .i) (sym (c .before .before .before .before .before .kind-at .ensures) ∙ c .before .before .before .before .match .keys3) (inner 9 (c .before .before .before .before .before .before .before .pre .1 .1) (search needs) (sym (c .before .before .before .before .before .kind-at .ensures) ∙ c .before .before .before .before .match .keys3) refl) (c .before .before .before .b-at2 .ensures) (c .in-scope .ensures) (rw (c .before .before .remove .ensures) at (c .before .flow-from3 .ensures))
 
 flow-from-returns-4 : (t : ℕ) → flow-from-lts.Need-returns-4 (claims t) (flow-from-at t) flow-from.Post
-flow-from-returns-4 t c = follows-if (c .before .before .before .before .before .before .before .args .part .now) (c .before .before .before .before .before .before .before .args .i) (sym (c .before .before .before .before .before .kind-at .ensures) ∙ c .before .before .before .before .match .keys4) (inner 10 (c .before .before .before .before .before .before .before .pre .1 .1) (search needs) (sym (c .before .before .before .before .before .kind-at .ensures) ∙ c .before .before .before .before .match .keys4) (lit≤ tt) (lit< tt)) (c .before .before .before .prior2 .ensures) (c .in-branches .ensures) (c .before .before .flow-from4 .ensures) (c .before .flow-from5 .ensures)
+flow-from-returns-4 t c = follows-if (c .before .before .before .before .before .before .before .args .part .now) (c .before .before .before .before .before .before .before .args .i) (sym (c .before .before .before .before .before .kind-at .ensures) ∙ c .before .before .before .before .match .keys4) (inner 10 (c .before .before .before .before .before .before .before .pre .1 .1) (search needs) (sym (c .before .before .before .before .before .kind-at .ensures) ∙ c .before .before .before .before .match .keys4) refl) (c .before .before .before .prior2 .ensures) (c .in-branches .ensures) (c .before .before .flow-from4 .ensures) (c .before .flow-from5 .ensures)
 
 flow-from-returns-5 : (t : ℕ) → flow-from-lts.Need-returns-5 (claims t) (flow-from-at t) flow-from.Post
-flow-from-returns-5 t c = follows-while (c .before .before .before .before .before .args .part .now) (c .before .before .before .before .before .args .i) (sym (c .before .before .before .kind-at .ensures) ∙ c .before .before .match .keys5) (inner 11 (c .before .before .before .before .before .pre .1 .1) (search needs) (sym (c .before .before .before .kind-at .ensures) ∙ c .before .before .match .keys5) (lit≤ tt) (lit< tt)) (c .in-loop .ensures) (c .before .flow-from6 .ensures)
+flow-from-returns-5 t c = follows-while (c .before .before .before .before .before .args .part .now) (c .before .before .before .before .before .args .i) (sym (c .before .before .before .kind-at .ensures) ∙ c .before .before .match .keys5) (inner 11 (c .before .before .before .before .before .pre .1 .1) (search needs) (sym (c .before .before .before .kind-at .ensures) ∙ c .before .before .match .keys5) refl) (c .in-loop .ensures) (c .before .flow-from6 .ensures)
 
 flow-from-returns-6 : (t : ℕ) → flow-from-lts.Need-returns-6 (claims t) (flow-from-at t) flow-from.Post
-flow-from-returns-6 t c = follows-return (c .before .before .before .before .before .before .args .part .now) (c .before .before .before .before .before .before .args .i) (sym (c .before .before .before .before .kind-at .ensures) ∙ c .before .before .before .match .keys6) (inner 12 (c .before .before .before .before .before .before .pre .1 .1) (search needs) (sym (c .before .before .before .before .kind-at .ensures) ∙ c .before .before .before .match .keys6) (lit≤ tt) (lit< tt)) (c .plain2 .ensures) (rw (c .before .before .full .ensures) at (c .before .union .ensures))
+flow-from-returns-6 t c = follows-return (c .before .before .before .before .before .before .args .part .now) (c .before .before .before .before .before .before .args .i) (sym (c .before .before .before .before .kind-at .ensures) ∙ c .before .before .before .match .keys6) (inner 12 (c .before .before .before .before .before .before .pre .1 .1) (search needs) (sym (c .before .before .before .before .kind-at .ensures) ∙ c .before .before .before .match .keys6) refl) (c .plain2 .ensures) (rw (c .before .before .full .ensures) at (c .before .union .ensures))
 
 flow-from-returns-7 : (t : ℕ) → flow-from-lts.Need-returns-7 (claims t) (flow-from-at t) flow-from.Post
 flow-from-returns-7 t c = follows-rest (c .before .before .before .before .args .part .now) (c .before .before .before .before .args .i) (c .before .before .before .before .args .set) _ (sym (c .before .before .kind-at .ensures)) (c .before .match .rest .0 .0 .0 .0 .0 .1) (c .before .match .rest .0 .0 .0 .0 .1) (c .before .match .rest .0 .0 .0 .1) (c .before .match .rest .0 .0 .1) (c .before .match .rest .0 .1) (c .before .match .rest .1) (c .plain3 .ensures)

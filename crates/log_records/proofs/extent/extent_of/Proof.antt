@@ -27,7 +27,7 @@ add-t9 : tie.Need-add-t9
 add-t9 c = omega (arith, few-there (c .before .before .before .args .m .now) (c .before .before .before .pre .0) .1, c .frames-held .ensures)
 
 returns : tie.Need-returns
-returns c = extent-is (c .before .before .before .args .m .now) (c .before .before .before .pre .0) refl (c .frames-held .ensures)
+returns c = extent-is (c .before .before .before .args .m .now) (c .before .before .before .pre .0) (c .before .before .before .pre .2) refl (c .frames-held .ensures)
 
 pub extent-of-spec : {M : Type 1} → statement M
 extent-of-spec =

@@ -13,7 +13,7 @@ use Rattle.run_rules.proofs.calling.enter.Statement.{statement}
 use Rattle.run_rules.proofs.calling.enter.Tie as tie
 
 returns : tie.Need-returns
-returns c f η k vs K A R e t y p v = entered-full _ _ _ _ R f _ η _ _ K A t (search needs)
+returns c α f η k vs K A R e t y p v = entered-full _ _ _ _ R α f _ η _ _ K A t (search needs)
 
 mul-start : tie.Need-mul-start
 mul-start c = search needs
@@ -56,15 +56,15 @@ same-length c = search needs
 
 returns-2 : tie.Need-returns-2
 unfolding controlIs
-returns-2 c f η k vs K A R e t y p v =
+returns-2 c α f η k vs K A R e t y p v =
     let b = c .before .before .before .before .before .before .before .before .before .before .before .before .before .before .before .before .before in
     let q = b .pre in
     let w = c .before .before .before .before .before .before .wide .ensures .0 ∙ c .before .before .before .before .before .before .before .vars-of .ensures in
     let d = c .before .before .before .before .before .before .before .before .before .before .before .count-of .ensures .0 in
     let i = q .2 .1 _ (q .3) in
     let u = counted-under t (b .args .h .frames - 1) (omega (arith, q .1)) in
-    on-is _ _ _ _ _ R _ _ _ _ _ _ (ap machine.exec (c .before .before .body-of .ensures _ i d)) (entered-some _ _ _ (vs ++ (valueIs (b .args .v) ∷ [])) p)
-    (c .before .before .before .before .before .enter .ensures f η k vs (varsOf (b .args .file .now) (b .args .g) - suc (b .args .y)) K A R e (t .callers) u (omega (arith, t .frames)) y
+    on-is _ _ _ _ _ R α _ _ _ _ _ _ (ap machine.exec (c .before .before .body-of .ensures _ i d)) (entered-some _ _ _ (vs ++ (valueIs (b .args .v) ∷ [])) p)
+    (c .before .before .before .before .before .enter .ensures f η k vs (varsOf (b .args .file .now) (b .args .g) - suc (b .args .y)) K A (R α) e (t .callers) u (omega (arith, t .frames)) y
     (omega (arith, w, q .2 .0 .vars _ (q .3))) (omega (arith, w, v, y)))
     (entered-describes _ f η K A _ _ _ _ _ i d (omega (arith, t .callers)) u) (omega (arith, c .before .before .before .before .before .before .before .before .before .before .before .before .before .if1 .left)) (omega (arith, q .0 .2))
 

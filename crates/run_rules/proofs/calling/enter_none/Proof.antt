@@ -12,7 +12,7 @@ use Rattle.run_rules.proofs.calling.enter_none.Statement.{statement}
 use Rattle.run_rules.proofs.calling.enter_none.Tie as tie
 
 returns : tie.Need-returns
-returns c f η K A R e t p = entered-full _ _ _ _ R f _ η _ _ K A t (search needs)
+returns c α f η K A R e t p = entered-full _ _ _ _ R α f _ η _ _ K A t (search needs)
 
 mul-start : tie.Need-mul-start
 mul-start c = search needs
@@ -49,14 +49,14 @@ same-length c = search needs
 
 returns-2 : tie.Need-returns-2
 unfolding controlIs
-returns-2 c f η K A R e t p =
+returns-2 c α f η K A R e t p =
     let b = c .before .before .before .before .before .before .before .before .before .before .before .before .before .before .before .before in
     let q = b .pre in
     let w = c .before .before .before .before .before .before .wide .ensures .0 ∙ c .before .before .before .before .before .before .before .vars-of .ensures in
     let d = c .before .before .before .before .before .before .before .before .before .before .count-of .ensures .0 in
     let i = q .1 .1 _ (q .2) in
-    on-is _ _ _ _ _ R _ _ _ (replicate (c .before .before .before .before .before .before .wide .result) nothing) _ _ (ap machine.exec (c .before .before .body-of .ensures _ i d)) (rw w (entered-none _ _ p))
-    (c .before .before .before .before .before .enter-none .ensures f η K A R e (t .callers) (t .frames) (omega (arith, w, q .1 .0 .vars _ (q .2))))
+    on-is _ _ _ _ _ R α _ _ _ (replicate (c .before .before .before .before .before .before .wide .result) nothing) _ _ (ap machine.exec (c .before .before .body-of .ensures _ i d)) (rw w (entered-none _ _ p))
+    (c .before .before .before .before .before .enter-none .ensures f η K A (R α) e (t .callers) (t .frames) (omega (arith, w, q .1 .0 .vars _ (q .2))))
     (entered-describes _ f η K A _ _ _ _ _ i d (omega (arith, t .callers)) (counted t)) (omega (arith, c .before .before .before .before .before .before .before .before .before .before .before .before .if1 .left)) (omega (arith, q .0 .2))
 
 pub enter-none-spec : {M : Type 1} → statement M

@@ -49,17 +49,17 @@ same-length c = search needs
 
 returns : tie.Need-returns
 unfolding controlIs
-returns c f η J g θ L A R e t =
+returns c α f η J g θ L A R e t =
     let b = c .before .before .before .before .before .before .before .before .before .before .before .before .before .before .before in
     let q = b .pre .1 in
     let a = left-callers t (b .args .h .callers - 1) (omega (arith, b .pre .0 .1)) in
-    let r = c .before .before .before .before .before .before .before .before .before .caller-function .ensures f η J g θ L A R e a in
+    let r = c .before .before .before .before .before .before .before .before .before .caller-function .ensures f η J g θ L A (R α) e a in
     let o = c .before .before .before .before .before .before .before .before .before .caller-function .ensures _ _ _ _ _ _ _ _ (q .held) (left-callers (q .describes) _ (omega (arith, b .pre .0 .1))) in
-    let k = c .before .before .before .before .before .before .before .caller-frames .ensures f η J g θ L A R e a in
+    let k = c .before .before .before .before .before .before .before .caller-frames .ensures f η J g θ L A (R α) e a in
     let u = left-under t in
     let known : g < functions (b .args .file .now) = rw (sym r ∙ o) (q .known) in
-    on-is _ _ _ _ _ R _ _ _ θ L A (c .before .before .before .before .before .before .before .before .before .before .before .before .at-hand .ensures) refl
-    (c .before .before .before .before .before .leave .ensures f η J g θ L A R e a (omega (arith, u, length-append L (savedFrames A))) (t .frames))
+    on-is _ _ _ _ _ R α _ _ _ θ L A (c .before .before .before .before .before .before .before .before .before .before .before .before .at-hand .ensures) refl
+    (c .before .before .before .before .before .leave .ensures f η J g θ L A (R α) e a (omega (arith, u, length-append L (savedFrames A))) (t .frames))
     (left-describes _ _ f J g θ L A _ _ _ _ _ _ t r (start-at _ (b .args .starts .now) g _ (b .pre .0 .2) known r) (c .before .count-of .ensures .0 ∙ rw r) (omega (arith, b .pre .0 .1)) k refl)
     (search needs) (omega (arith, k, u, b .pre .0 .0 .2))
 

@@ -12,7 +12,7 @@ same-length c = search needs
 
 returns : tie.Need-returns
 unfolding StepsTo
-returns c s f η J R e t = (refl, λ z w. c .before .before .leave-main .ensures z f η J R e w (t .frames))
+returns c s α f η J R e t = record { environment = α; is = refl; held = λ z w. c .before .before .leave-main .ensures z f η J (R α) e w (t .frames) }
 
 pub leave-main-spec : {M : Type 1} → statement M
 leave-main-spec = tie.close (tie.spec leave-main-requires same-length returns)

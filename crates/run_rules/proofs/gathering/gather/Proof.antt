@@ -12,7 +12,7 @@ add-n : tie.Need-add-n
 add-n c = search needs
 
 returns : tie.Need-returns
-returns c s f η g e ns K A R held t w kids = full s _ _ _ R f η _ K A t (search needs)
+returns c s α f η g e ns K A R held t w kids = full s _ _ _ R α f η _ K A t (search needs)
 
 push-gather-requires : tie.Need-push-gather-requires
 push-gather-requires c κs = search needs
@@ -30,9 +30,9 @@ same-length : tie.Need-same-length
 same-length c = search needs
 
 returns-2 : tie.Need-returns-2
-returns-2 c s f η g e ns K A R held t w kids =
-    let p = c .before .before .before .before .push-gather .ensures .1 f η g e ns K A R held (omega (arith, t .callers, c .before .before .before .before .before .before .before .before .before .before .pre .0 .1)) (counted t) w kids in
-    on-is s _ _ _ _ R _ f η η (machine.gather g [] ns ∷ K) A (c .before .reach .ensures ∙ rw (p .0)) refl (p .1) (moved t _ _ (omega (arith, t .frames))) (search needs) (omega arith)
+returns-2 c s α f η g e ns K A R held t w kids =
+    let p = c .before .before .before .before .push-gather .ensures .1 f η g e ns K A (R α) held (omega (arith, t .callers, c .before .before .before .before .before .before .before .before .before .before .pre .0 .1)) (counted t) w kids in
+    on-is s _ _ _ _ R α _ f η η (machine.gather g [] ns ∷ K) A (c .before .reach .ensures ∙ rw (p .0)) refl (p .1) (moved t _ _ (omega (arith, t .frames))) (search needs) (omega arith)
 
 pub gather-spec : {M : Type 1} → statement M
 gather-spec =

@@ -13,7 +13,7 @@ same-length : tie.Need-same-length
 same-length c = search needs
 
 returns : tie.Need-returns
-returns c s f η K A R e t pass part fit = nop-done _ _ _ _ _ R f η K A _ _ (ref-nop _ (c .before .before .before .before .if1 .taken)) e t fit (λ w L i j. c .before .before .resume .ensures s f η w L A R i j)
+returns c s α f η K A R e t pass part fit = nop-done _ _ _ _ _ R α f η K A _ _ (ref-nop _ (c .before .before .before .before .if1 .taken)) e t fit (λ w L i j. c .before .before .resume .ensures s α f η w L A R i j)
 
 sub-n : tie.Need-sub-n
 sub-n c = search needs
@@ -34,19 +34,19 @@ same-length-2 : tie.Need-same-length-2
 same-length-2 c = search needs
 
 returns-2 : tie.Need-returns-2
-returns-2 c s f η K A R e t pass part fit = let b = c .before .before .before .before .before .before .before .before in node-done _ _ _ _ R f η K A _ _ (ref-node (b .args .r) (omega (arith, c .before .before .before .before .before .if1 .left)) (c .before .before .before .before .match .keys1)) fit (λ i. c .before .before .execute-node .ensures s f η K A R e t pass part i)
+returns-2 c s α f η K A R e t pass part fit = let b = c .before .before .before .before .before .before .before .before in node-done _ _ _ _ R α f η K A _ _ (ref-node (b .args .r) (omega (arith, c .before .before .before .before .before .if1 .left)) (c .before .before .before .before .match .keys1)) fit (λ i. c .before .before .execute-node .ensures s α f η K A R e t pass part i)
 
 same-length-3 : tie.Need-same-length-3
 same-length-3 c = search needs
 
 returns-3 : tie.Need-returns-3
-returns-3 c s f η K A R e t pass part fit = let b = c .before .before .before .before .before .before .before .before in let q = b .pre in let d = ref-if (b .args .r) (omega (arith, c .before .before .before .before .before .if1 .left)) (c .before .before .before .before .match .keys2) in if-done _ _ _ _ R f η K A _ _ d (c .before .before .execute-loop .ensures s f η K A R e t part (executes-if (b .args .part .now) (b .args .m .now) (b .args .h) (refOf (b .args .r)) (q .0 .0) d (q .0 .1) .1))
+returns-3 c s α f η K A R e t pass part fit = let b = c .before .before .before .before .before .before .before .before in let q = b .pre in let d = ref-if (b .args .r) (omega (arith, c .before .before .before .before .before .if1 .left)) (c .before .before .before .before .match .keys2) in if-done _ _ _ _ R α f η K A _ _ d (c .before .before .execute-loop .ensures s α f η K A R e t part (executes-if (b .args .part .now) (b .args .m .now) (b .args .h) (refOf (b .args .r)) (q .0 .0) d (q .0 .1) .1))
 
 same-length-4 : tie.Need-same-length-4
 same-length-4 c = search needs
 
 returns-4 : tie.Need-returns-4
-returns-4 c s f η K A R e t pass part fit = let b = c .before .before .before .before .before .before .before .before in let q = b .pre in let d = ref-seq (b .args .r) (omega (arith, c .before .before .before .before .before .if1 .left)) (c .before .before .before .before .match .rest .0 .1) (c .before .before .before .before .match .rest .1) in seq-done _ _ _ _ R f η K A _ _ d (c .before .before .execute-loop2 .ensures s f η K A R e t part (executes-seq (b .args .part .now) (b .args .m .now) (b .args .h) (refOf (b .args .r)) (q .0 .0) d (q .0 .1) .1))
+returns-4 c s α f η K A R e t pass part fit = let b = c .before .before .before .before .before .before .before .before in let q = b .pre in let d = ref-seq (b .args .r) (omega (arith, c .before .before .before .before .before .if1 .left)) (c .before .before .before .before .match .rest .0 .1) (c .before .before .before .before .match .rest .1) in seq-done _ _ _ _ R α f η K A _ _ d (c .before .before .execute-loop2 .ensures s α f η K A R e t part (executes-seq (b .args .part .now) (b .args .m .now) (b .args .h) (refOf (b .args .r)) (q .0 .0) d (q .0 .1) .1))
 
 pub execute-spec : {M : Type 1} → statement M
 execute-spec =

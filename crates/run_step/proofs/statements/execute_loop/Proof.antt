@@ -29,9 +29,9 @@ same-length c = search needs
 
 returns : tie.Need-returns
 unfolding controlIs refWord frameWords block
-returns c s f η K A R e t part k =
+returns c s α f η K A R e t part k =
     let b = c .before .before .before .before .before .before .before .before in
-    rw (c .before .before .before .before .before .if1 .taken, see-seq _ _ (b .pre .3) k, ← (c .before .before .before .ref-word-at .ensures .1)) (c .before .before .lay .ensures s f η (wait (node _)) K A R e t refl)
+    rw (c .before .before .before .before .before .if1 .taken, see-seq _ _ (b .pre .3) k, ← (c .before .before .before .ref-word-at .ensures .1)) (c .before .before .lay .ensures s α f η (wait (node _)) K A R e t refl)
 
 prior-requires : tie.Need-prior-requires
 prior-requires c κs = search needs
@@ -56,9 +56,9 @@ same-length-2 c = search needs
 
 returns-2 : tie.Need-returns-2
 unfolding programOf refWord frameWords block
-returns-2 c s f η K A R e t part k =
+returns-2 c s α f η K A R e t part k =
     let b = c .before .before .before .before .before .before .before .before .before in
-    rw (c .before .before .before .before .before .before .if1 .left, see-if _ _ (b .pre .3) k, ← part, ← (c .before .before .before .before .before .prior .ensures), ← (c .before .before .before .reach .ensures)) (c .before .before .lay2 .ensures s f η (branch (seqOf _) Ref.nop) K A R e t refl)
+    rw (c .before .before .before .before .before .before .if1 .left, see-if _ _ (b .pre .3) k, ← part, ← (c .before .before .before .before .before .prior .ensures), ← (c .before .before .before .reach .ensures)) (c .before .before .lay2 .ensures s α f η (branch (seqOf _) Ref.nop) K A R e t refl)
 
 pub execute-loop-spec : {M : Type 1} → statement M
 execute-loop-spec =

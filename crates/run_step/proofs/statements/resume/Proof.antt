@@ -25,11 +25,11 @@ same-length c = search needs
 
 returns : tie.Need-returns
 unfolding controlIs
-returns c s f η r K A R e t =
+returns c s α f η r K A R e t =
     let b = c .before .before .before .before .before .before .before .before .before in
     let n = counted-under t (b .args .h .frames - 1) (omega (arith, b .pre .1)) in
-    let q = waits-word _ _ f η r K A R _ e (omega (arith, t .callers, b .pre .0 .1)) n (c .before .before .before .before .frame-word .ensures) in
-    rw (← q) (c .before .before .take-off .ensures s f η (wait r) K A R e t)
+    let q = waits-word _ _ f η r K A (R α) _ e (omega (arith, t .callers, b .pre .0 .1)) n (c .before .before .before .before .frame-word .ensures) in
+    rw (← q) (c .before .before .take-off .ensures s α f η (wait r) K A R e t)
 
 pub resume-spec : {M : Type 1} → statement M
 resume-spec = tie.close (tie.spec sub-frames add-frame-word frame-word-requires take-off-requires same-length returns)
