@@ -1,4 +1,5 @@
 // The operators on integers of 32 bits, held as words of u32.
+#![tactic(auto)]
 ghost use Rattle.std.specs.Prelude.{◌≡◌, ◌≤◌, not, ◌&&◌, length, ◌==◌};
 ghost use Rattle.records.specs.Fields.{edition_of};
 ghost use Rattle.arith.specs.Int.{int, wrap};
@@ -7,7 +8,7 @@ ghost use Rattle.arith.specs.Operators.{add_of, sub_of, mul_of, quot_of, rem_of,
 use records::edition_of;
 
 // What an operator gives: an int, as a word, a bool, or the exception arith.
-#[derive(Drop)]
+#[derive(Clone, Copy)]
 pub enum Applied {
     Int(u32),
     Truth(bool),

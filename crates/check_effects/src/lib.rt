@@ -1,4 +1,5 @@
 // What a statement reads and sets, from what its parts do: questions 13 and 14 without a walk over the whole body.
+#![tactic(auto)]
 ghost use Rattle.std.specs.Prelude.{◌≡◌, true, List, ◌⊎◌, ◌+◌, ◌*◌, ◌≤◌, ◌<◌, eqb, length};
 ghost use Rattle.spec_language.specs.Types.{unset};
 ghost use Rattle.records.specs.Format.{most_variables};
@@ -20,7 +21,7 @@ pub const RETURN: u8 = 17;
 
 // A statement's code, or 255 where it fails; the variables that it may read before it
 // sets them, and those that it sets on every way through.
-#[derive(Drop)]
+#[derive(Clone, Copy)]
 pub struct Effect {
     pub code: u8,
     pub reads: VarSet,

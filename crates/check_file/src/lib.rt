@@ -1,4 +1,5 @@
 // The check of a procedure file: questions 1 to 14 in order.
+#![tactic(auto)]
 mod sizes;
 
 ghost use Rattle.std.specs.Prelude.{◌≡◌, true, ◌||◌, ℕ, ◌+◌, ◌*◌, ◌-◌, ◌≤◌, ◌<◌, eqb, length, get_or};
@@ -18,7 +19,7 @@ use records::format::SHORTEST_FILE;
 use records::{Found, count_of, function_count, shift_by};
 
 // A refusal: the question that fails, the record where it does, and the item that it names.
-#[derive(Drop)]
+#[derive(Clone, Copy)]
 pub struct Refusal {
     pub question: u8,
     pub place: usize,
@@ -26,7 +27,7 @@ pub struct Refusal {
 }
 
 // Accepted, or refused.
-#[derive(Drop)]
+#[derive(Clone, Copy)]
 pub enum Answer {
     Accepted,
     Refused(Refusal),

@@ -1,4 +1,5 @@
 // Questions 13 and 14: every variable read has a value by then, and every body returns; by the summaries of a part's statements.
+#![tactic(auto)]
 ghost use Rattle.std.specs.Prelude.{◌≡◌, not, ◌&&◌, List, ℕ, ◌+◌, ◌*◌, ◌-◌, ◌≤◌, ◌<◌, eqb, length};
 ghost use Rattle.records.specs.Format.{most_parameters, most_variables};
 ghost use Rattle.varset.specs.Lowest.{pick};
@@ -17,7 +18,7 @@ use records::{Found, minus, params_of, wide};
 use varset::VarSet;
 
 // Where the first empty read of a statement is sought: found, or to be sought in a statement inside it, begun with the set.
-#[derive(Drop)]
+#[derive(Clone, Copy)]
 struct Descent {
     done: bool,
     found: Found,

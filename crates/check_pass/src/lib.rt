@@ -1,4 +1,5 @@
 // The pass over the nodes of a part, kind by kind: the least question that may fail in it.
+#![tactic(auto)]
 mod nodes;
 pub mod survey;
 

@@ -1,4 +1,5 @@
 // Questions 10 and 11: each variable is declared once, and used under its decl.
+#![tactic(auto)]
 ghost use Rattle.std.specs.Prelude.{◌≡◌, true, ◌+◌, ◌*◌, ◌≤◌, ◌<◌, length};
 ghost use Rattle.records.specs.Format.{most_parameters, most_variables};
 ghost use Rattle.varset.specs.Lowest.{lowest};
@@ -15,7 +16,7 @@ use records::{Found, params_of, vars_of, wide};
 use varset::VarSet;
 
 // The variables declared so far, and those declared more than once.
-#[derive(Drop)]
+#[derive(Clone, Copy)]
 pub struct Declared {
     pub seen: VarSet,
     pub twice: VarSet,

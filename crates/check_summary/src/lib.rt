@@ -1,4 +1,5 @@
 // What each expression of a part needs and what each statement does, in a table of five words a node, filled in one pass.
+#![tactic(auto)]
 pub mod rows;
 
 ghost use Rattle.std.specs.Prelude.{◌≡◌, true, false, [], ◌∷◌, ◌↔◌, ◌+◌, ◌*◌, ◌≤◌, ◌<◌, length};
@@ -187,7 +188,7 @@ pub fn fill(part: &[u8], n: usize, table: &mut [u64])
 }
 
 // Whether every read of a statement finds a value, and the variables that have a value after it.
-#[derive(Drop)]
+#[derive(Clone, Copy)]
 pub struct Flowed {
     pub ok: bool,
     pub left: VarSet,

@@ -9,7 +9,7 @@ ghost use Rattle.check_summary.specs.Rows.{Sums};
 use varset::VarSet;
 
 // Whether the statement passes from no set, whether it returns, and the variables that it needs, adds, drops and declares.
-#[derive(Drop)]
+#[derive(Clone, Copy)]
 pub struct Row {
     pub fails: bool,
     pub returned: bool,

@@ -1,4 +1,5 @@
 // SHA-256, by which the release desk names the bytes that it checked.
+#![tactic(auto)]
 mod constants;
 mod padding;
 
@@ -13,7 +14,7 @@ use crate::constants::K;
 use crate::padding::word_at;
 
 // Eight words: the working variables a to h, and a hash value.
-#[derive(Drop)]
+#[derive(Clone, Copy)]
 pub struct Eight {
     pub a: u32,
     pub b: u32,

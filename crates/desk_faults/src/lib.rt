@@ -1,4 +1,5 @@
 // Which field of a record is wrong, and how often a variable is declared: what a refusal's sentence says beyond its numbers.
+#![tactic(auto)]
 ghost use Rattle.std.specs.Prelude.{◌≡◌, ◌*◌, ◌≤◌, length};
 ghost use Rattle.varset.specs.Lowest.{pick};
 ghost use Rattle.spec_language.specs.Scopes.{decl_count};
@@ -9,7 +10,7 @@ use records::nodes::{b_at, kind_at};
 use records::{count_of, mark_at, mask_fits, mask_of, params_of, result_of, u16_at, vars_of};
 
 // The first field of a function's record that is wrong.
-#[derive(Drop)]
+#[derive(Clone, Copy)]
 pub enum FunctionFault {
     Missing,
     Mark,
@@ -23,7 +24,7 @@ pub enum FunctionFault {
 }
 
 // What is wrong with a node's record: its mark, its kind, or a field that its kind has.
-#[derive(Drop)]
+#[derive(Clone, Copy)]
 pub enum NodeFault {
     Missing,
     Mark,

@@ -1,4 +1,5 @@
 // A file's bytes by its name, or the error that the system gave, with the system's words for it, and names as they are printed.
+#![tactic(auto)]
 ghost use Rattle.std.specs.Prelude.{◌≤◌, length, nat_abs};
 ghost use Rattle.desk_files.specs.Kept.{Inside};
 ghost use Rattle.desk_files.specs.Names.{Plain};
@@ -9,7 +10,7 @@ use texts::{put_numbered, put_word};
 const DASH: i32 = 3;
 
 // How many bytes of a file are kept, or the number of the error that the system gave.
-#[derive(Drop)]
+#[derive(Clone, Copy)]
 pub enum Content {
     Bytes(usize),
     Failed(i32),

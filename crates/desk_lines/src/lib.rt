@@ -1,4 +1,5 @@
 // What the desk says of a file: a line for people with the function shown below it, or an object for programs.
+#![tactic(auto)]
 pub mod counts;
 pub mod objects;
 pub mod strings;
@@ -10,7 +11,7 @@ use records::{edition_of, function_count};
 use texts::{put, put_numbered};
 
 // How the desk speaks: whether it shows functions, leaves out files that pass, and writes objects.
-#[derive(Drop)]
+#[derive(Clone, Copy)]
 pub struct Style {
     pub show: bool,
     pub quiet: bool,

@@ -10,14 +10,14 @@ use records::nodes::b_at;
 use texts::{put, put_numbered};
 
 // A number, or null.
-#[derive(Drop)]
+#[derive(Clone, Copy)]
 enum Field {
     Null,
     Number(u64),
 }
 
 // What a refusal names: the function, the node counted in it, and the variable.
-#[derive(Drop)]
+#[derive(Clone, Copy)]
 struct Named {
     function: Field,
     node: Field,

@@ -2,6 +2,7 @@
 //
 // A node is written by a template for its kind, which has the letters of `lines` and these: S and T write the next child as a
 // statement, T one level deeper; E writes it as an expression, A writes all children so, and X the node itself.
+#![tactic(auto)]
 pub mod lines;
 pub mod worklist;
 
@@ -16,7 +17,7 @@ use std::num::{wrapping_add_usize, wrapping_sub_usize};
 use texts::{put, put_word, word_start};
 
 // How many words of the stack are used, and how many bytes wait.
-#[derive(Drop)]
+#[derive(Clone, Copy)]
 struct Walk {
     top: usize,
     at: usize,

@@ -12,7 +12,7 @@ use texts::kinds::put_operator;
 use texts::{put, put_decimal, put_int, put_numbered, put_word};
 
 // What is written: the number of nodes, the record of the first, and the node that is marked.
-#[derive(Drop)]
+#[derive(Clone, Copy)]
 pub struct Subject {
     pub nodes: usize,
     pub first: usize,

@@ -5,7 +5,7 @@ use records::minus;
 use std::num::wrapping_add_usize;
 
 // A node that is being written: whether as an expression, how far in its template, how many children of it, and how deep.
-#[derive(Drop)]
+#[derive(Clone, Copy)]
 pub struct Pending {
     pub node: usize,
     pub expression: bool,

@@ -1,4 +1,5 @@
 // Where a refusal's place lies in a procedure file.
+#![tactic(auto)]
 ghost use Rattle.std.specs.Prelude.{◌≡◌, ◌+◌, ◌*◌, ◌≤◌, ◌<◌, length};
 ghost use Rattle.records.specs.Fields.{functions as Fields·functions};
 ghost use Rattle.records.specs.Parts.{start_of};
@@ -9,7 +10,7 @@ use records::nodes::kind_at;
 use records::{count_of, function_count};
 
 // A record by what it is: the header, a function's own, a node of a function with its kind, or no record of the file.
-#[derive(Drop)]
+#[derive(Clone, Copy)]
 pub enum Place {
     Header,
     Function {
@@ -81,7 +82,7 @@ fn start_of(file: &[u8], function: usize, functions: usize) -> usize
 }
 
 // The first record of a function's part, and how many nodes it has.
-#[derive(Drop)]
+#[derive(Clone, Copy)]
 pub struct Extent {
     pub start: usize,
     pub count: usize,

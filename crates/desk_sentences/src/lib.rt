@@ -1,4 +1,5 @@
 // The reason of a refusal as a sentence, for people.
+#![tactic(auto)]
 mod header;
 mod ways;
 

@@ -11,7 +11,7 @@ use records::nodes::{b_at, kind_at, prior};
 use varset::VarSet;
 
 // The variables that have a value after a statement, and those that it declares.
-#[derive(Drop)]
+#[derive(Clone, Copy)]
 pub struct Flow {
     pub left: VarSet,
     pub declared: VarSet,

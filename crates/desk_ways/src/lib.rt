@@ -1,4 +1,5 @@
 // On which way a variable has no value where it is read: the branch or the loop that a refusal by question 13 names.
+#![tactic(auto)]
 mod flow;
 mod known;
 
@@ -16,7 +17,7 @@ use records::nodes::{b_at, kind_at, prior};
 use varset::VarSet;
 
 // How a read is reached without a value: by the branch of an if that gives none, past a while that makes no turn, or with nothing before it that gives one.
-#[derive(Drop)]
+#[derive(Clone, Copy)]
 pub enum Way {
     Straight,
     First { node: usize },

@@ -1,4 +1,5 @@
 // The entry points that keep a log: a run that writes a record for each step, and a step back by the last record.
+#![tactic(auto)]
 ghost use Rattle.std.specs.Prelude.{◌≡◌, true, List, ◌++◌, ℕ, ◌≤◌, length, take};
 ghost use Rattle.spec_image.specs.Sizes.{size};
 ghost use Rattle.spec_machine.specs.Machine.{State};
@@ -21,14 +22,14 @@ use run_loop::Outcome;
 use state_words::layout::IMAGE_WORDS;
 
 // How a logged run stopped.
-#[derive(Drop)]
+#[derive(Clone, Copy)]
 pub enum Stop {
     Ended(Outcome),
     LogFull,
 }
 
 // How it stopped, how many rules were taken, and how much of the log is used.
-#[derive(Drop)]
+#[derive(Clone, Copy)]
 pub struct Logged {
     pub stop: Stop,
     pub steps: u64,
@@ -36,21 +37,21 @@ pub struct Logged {
 }
 
 // What a logged run answers: how it stopped, or why it was refused.
-#[derive(Drop)]
+#[derive(Clone, Copy)]
 pub enum LogReply {
     Stopped(Logged),
     Refused(Refusal),
 }
 
 // What a step back answers: how much of the log is used then, or why it was refused.
-#[derive(Drop)]
+#[derive(Clone, Copy)]
 pub enum BackReply {
     Went(usize),
     Refused(Refusal),
 }
 
 // What came of one step that is to be logged: it was taken, with so many bytes of the log; the run stands; or the log has no room.
-#[derive(Drop)]
+#[derive(Clone, Copy)]
 pub enum LogStep {
     Took(Extent, usize),
     Stood(Outcome),

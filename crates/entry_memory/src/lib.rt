@@ -1,4 +1,5 @@
 // The entry points that only read lent memory: the memory check and look-up.
+#![tactic(auto)]
 ghost use Rattle.std.specs.Prelude.{◌≡◌, true, ◌≤◌, length};
 ghost use Rattle.spec_language.specs.Check.{accepted, check_of};
 ghost use Rattle.check_file.specs.Answers.{says, Small};
@@ -17,7 +18,7 @@ use state_words::Value;
 use state_words::layout::{IMAGE_WORDS, TAG_RUNNING};
 
 // What look-up gives: nothing, an int, a bool, or a refusal.
-#[derive(Drop)]
+#[derive(Clone, Copy)]
 pub enum Look {
     Nothing,
     Int(i32),

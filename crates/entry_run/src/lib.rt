@@ -1,4 +1,5 @@
 // The entry point that runs the procedure in a memory.
+#![tactic(auto)]
 ghost use Rattle.std.specs.Prelude.{◌≡◌};
 ghost use Rattle.spec_answers.specs.Answers.{run_answer, run_memory};
 ghost use Rattle.entry_run.specs.Replies.{reply_of, SmallReply};
@@ -7,7 +8,7 @@ use check_file::{Answer, Refusal};
 use run_loop::Ran;
 
 // What a run answers: how it ended, or why it was refused.
-#[derive(Drop)]
+#[derive(Clone, Copy)]
 pub enum Reply {
     Ended(Ran),
     Refused(Refusal),

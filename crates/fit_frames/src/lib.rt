@@ -1,4 +1,5 @@
 // The frames of an activation, one by one: whether each suits what comes down to it, and what it hands on.
+#![tactic(auto)]
 pub mod descent;
 pub mod operands;
 mod statements;
@@ -30,7 +31,7 @@ use state_words::layout::{
 use varset::VarSet;
 
 // What comes down to a frame: whether a value is given, its type, the variables that have a value, whether something that returns has come.
-#[derive(Drop)]
+#[derive(Clone, Copy)]
 pub struct Received {
     pub some: bool,
     pub kind: u8,
@@ -39,7 +40,7 @@ pub struct Received {
 }
 
 // Whether a frame suits what comes down to it, and what it hands on where it does.
-#[derive(Drop)]
+#[derive(Clone, Copy)]
 pub struct Next {
     pub ok: bool,
     pub down: Received,

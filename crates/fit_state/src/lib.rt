@@ -1,4 +1,5 @@
 // Whether the state that a memory holds is fit for an accepted file's program.
+#![tactic(auto)]
 mod holding;
 mod tables;
 
@@ -41,14 +42,14 @@ use state_words::{Control, control_of};
 use varset::VarSet;
 
 // What stands over an activation's frames: the control, or a callee that gives a result of a type.
-#[derive(Drop)]
+#[derive(Clone, Copy)]
 enum Over {
     Running(Control),
     Calling(u8),
 }
 
 // Whether each variable holds nothing or a value of its type, and the variables that hold values.
-#[derive(Drop)]
+#[derive(Clone, Copy)]
 struct Variables {
     ok: bool,
     set: VarSet,

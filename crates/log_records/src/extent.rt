@@ -7,7 +7,7 @@ ghost use Rattle.log_records.specs.Ranges.{Alike, NoEnv, Within};
 use state_words::layout::{ACTIVATION_WORDS, ACTIVATIONS, FRAME_WORDS, FRAMES};
 
 // The end of the activations, and the end of the frames.
-#[derive(Drop)]
+#[derive(Clone, Copy)]
 pub struct Extent {
     pub low: usize,
     pub high: usize,

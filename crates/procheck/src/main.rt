@@ -1,4 +1,5 @@
 // Checks the procedure on standard input, and prints one line: passed, or the refusal.
+#![tactic(auto)]
 use check_file::Answer;
 use records::format::KEPT_BYTES;
 

@@ -1,4 +1,5 @@
 // The records of a procedure file: numbers in bytes, the fields of the header and of functions, and what a search finds.
+#![tactic(auto)]
 pub mod format;
 pub mod nodes;
 pub mod starts;
@@ -9,7 +10,7 @@ ghost use Rattle.records.specs.Fields.{mark_at, functions, nodes, edition_of, re
 ghost use Rattle.records.specs.Search.{shift, or_else};
 
 // The place and the item that a search finds.
-#[derive(Drop)]
+#[derive(Clone, Copy)]
 pub enum Found {
     At(usize, u32),
     Nothing,

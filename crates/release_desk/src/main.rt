@@ -2,6 +2,7 @@
 //
 // The names come by standard input, each ended by a zero byte. The first argument may be `show` or `json`, the second `refused`, and
 // the third is the revision that objects name.
+#![tactic(auto)]
 use check_file::Answer;
 use desk_files::Content;
 use desk_lines::Style;
@@ -9,14 +10,14 @@ use desk_lines::counts::{COUNTERS, PASSED, UNREAD, count};
 use records::format::KEPT_BYTES;
 
 // How the desk speaks, and how many bytes wait.
-#[derive(Drop)]
+#[derive(Clone, Copy)]
 struct Desk {
     style: Style,
     at: usize,
 }
 
 // A list of names while it is read: the desk, the length of the name so far, and whether it is too long for one.
-#[derive(Drop)]
+#[derive(Clone, Copy)]
 struct Listed {
     desk: Desk,
     length: usize,

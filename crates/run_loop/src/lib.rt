@@ -1,4 +1,5 @@
 // A run in lent memory: the head of the image is taken out into registers, kept there while rules are taken, and put back at the end.
+#![tactic(auto)]
 ghost use Rattle.std.specs.Prelude.{◌≡◌, List, ◌++◌, ℕ, ◌+◌, ◌-◌, ◌≤◌, ◌<◌, length};
 ghost use Rattle.std.proofs.Math.Option.{none};
 ghost use Rattle.spec_image.specs.Sizes.{size};
@@ -28,7 +29,7 @@ use state_words::layout::{
 };
 
 // How a run ended.
-#[derive(Drop)]
+#[derive(Clone, Copy)]
 pub enum Outcome {
     Value(i32),
     Arith,
@@ -38,7 +39,7 @@ pub enum Outcome {
 }
 
 // Its outcome, and how many rules were taken.
-#[derive(Drop)]
+#[derive(Clone, Copy)]
 pub struct Ran {
     pub outcome: Outcome,
     pub steps: u64,

@@ -1,4 +1,5 @@
 // What the rules do to lent memory: each function takes a running state to the next, and says how the run stands then.
+#![tactic(auto)]
 pub mod calling;
 pub mod gathering;
 
@@ -17,7 +18,7 @@ use state_words::layout::FRAME_LIMIT;
 use state_words::{Control, Value};
 
 // The current function with its part's first byte and node count, its callers, its frames, and those of its callers.
-#[derive(Drop)]
+#[derive(Clone, Copy)]
 pub struct Registers {
     pub function: usize,
     pub start: usize,
@@ -28,7 +29,7 @@ pub struct Registers {
 }
 
 // A step was taken; or its state would pass a limit; or the run has ended but for its last rule; or it has ended by an exception.
-#[derive(Drop)]
+#[derive(Clone, Copy)]
 pub enum Stepped {
     Went(Control, Registers),
     Full,

@@ -1,1 +1,2 @@
 // What each entry point answers and leaves in the memory, as definitions.
+#![tactic(auto)]

@@ -1,1 +1,2 @@
 // What the nodes of a procedure mean.
+#![tactic(auto)]

@@ -1,1 +1,2 @@
 // Whole lists of calls on one memory.
+#![tactic(auto)]

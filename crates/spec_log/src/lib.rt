@@ -1,1 +1,2 @@
 // Records of steps, logged runs and steps back, as definitions.
+#![tactic(auto)]

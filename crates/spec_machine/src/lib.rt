@@ -1,1 +1,2 @@
 // The machine of the papers as definitions: states, rules, fitness and runs.
+#![tactic(auto)]

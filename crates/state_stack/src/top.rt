@@ -20,7 +20,7 @@ use state_words::layout::{
 };
 
 // A frame: what gathers, with how many values it has and how many nodes wait, or one of the frames without operands; by frame.
-#[derive(Drop)]
+#[derive(Clone, Copy)]
 pub enum Top {
     Operator(u32, u32, u32),
     Call(u32, u32, u32),

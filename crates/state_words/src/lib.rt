@@ -1,4 +1,5 @@
 // Values, references and controls in words of lent memory; frames and activations are modules of their own.
+#![tactic(auto)]
 pub mod activations;
 pub mod frames;
 pub mod layout;
@@ -13,7 +14,7 @@ ghost use Rattle.state_words.specs.Meaning.{value_is, ref_is, control_is};
 use crate::layout::{FORM_BOOL, FORM_EVAL, FORM_INT, FORM_NOTHING};
 
 // A value: nothing, an int by its word, or a bool.
-#[derive(Drop)]
+#[derive(Clone, Copy)]
 pub enum Value {
     Nothing,
     Int(u32),
@@ -21,7 +22,7 @@ pub enum Value {
 }
 
 // A statement: the nop, a node's, or the if or the seq of a while's node.
-#[derive(Drop)]
+#[derive(Clone, Copy)]
 pub enum Ref {
     Nop,
     Node(u32),
@@ -30,7 +31,7 @@ pub enum Ref {
 }
 
 // A value at hand, an expression to evaluate by its node, a statement to execute by its word.
-#[derive(Drop)]
+#[derive(Clone, Copy)]
 pub enum Control {
     Nothing,
     Int(u32),

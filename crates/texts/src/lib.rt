@@ -1,6 +1,7 @@
 // Text for standard output, gathered in a lent buffer that is written out whenever it is full.
 //
 // A position counts the bytes that wait at the start of the buffer.
+#![tactic(auto)]
 pub mod kinds;
 
 ghost use Rattle.std.specs.Prelude.{◌≡◌, ◌+◌, ◌≤◌, ◌<◌, length};

@@ -1,10 +1,11 @@
 // Sets of variables over a word: member i is bit i.
+#![tactic(auto)]
 ghost use Rattle.std.specs.Prelude.{◌≡◌, true, ◌↔◌, ◌<◌, ◌≤◌};
 ghost use Rattle.varset.specs.Lowest.{lowest};
 ghost use Rattle.varset.specs.Sets.{has, none, with, without, both, either, less, below};
 
 // A set of numbers below 64.
-#[derive(Drop)]
+#[derive(Clone, Copy)]
 pub struct VarSet(pub u64);
 
 // The set without members.
