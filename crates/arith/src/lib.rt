@@ -1,5 +1,6 @@
 // The operators on integers of 32 bits, held as words of u32.
 #![tactic(auto)]
+
 ghost use Rattle.std.specs.Prelude.{◌≡◌, ◌≤◌, not, ◌&&◌, length, ◌==◌};
 ghost use Rattle.records.specs.Fields.{edition_of};
 ghost use Rattle.arith.specs.Int.{int, wrap};

@@ -1,5 +1,6 @@
 // What a statement reads and sets, from what its parts do: questions 13 and 14 without a walk over the whole body.
 #![tactic(auto)]
+
 ghost use Rattle.std.specs.Prelude.{◌≡◌, true, List, ◌⊎◌, ◌+◌, ◌*◌, ◌≤◌, ◌<◌, eqb, length};
 ghost use Rattle.spec_language.specs.Types.{unset};
 ghost use Rattle.records.specs.Format.{most_variables};

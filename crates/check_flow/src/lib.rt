@@ -1,5 +1,6 @@
 // Questions 13 and 14: every variable read has a value by then, and every body returns; by the summaries of a part's statements.
 #![tactic(auto)]
+
 ghost use Rattle.std.specs.Prelude.{◌≡◌, not, ◌&&◌, List, ℕ, ◌+◌, ◌*◌, ◌-◌, ◌≤◌, ◌<◌, eqb, length};
 ghost use Rattle.records.specs.Format.{most_parameters, most_variables};
 ghost use Rattle.varset.specs.Lowest.{pick};

@@ -1,5 +1,6 @@
 // Questions 2, 3, 5 and 6: the header, the number of records, the part counts and main; and 1 for files that are not long.
 #![tactic(auto)]
+
 ghost use Rattle.std.specs.Prelude.{◌≡◌, true, false, ◌+◌, ◌*◌, ◌≤◌, ◌<◌, eqb, length};
 ghost use Rattle.records.specs.Format.{most_functions};
 ghost use Rattle.records.specs.Fields.{nodes};

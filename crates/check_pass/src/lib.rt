@@ -1,5 +1,6 @@
 // The pass over the nodes of a part, kind by kind: the least question that may fail in it.
 #![tactic(auto)]
+
 mod nodes;
 pub mod survey;
 

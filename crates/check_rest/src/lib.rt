@@ -1,5 +1,6 @@
 // The nodes from the one where the pass over a part stopped: the least of questions 8, 9, 11 and 12 that may fail.
 #![tactic(auto)]
+
 ghost use Rattle.std.specs.Prelude.{◌+◌, ◌*◌, ◌≤◌, ◌<◌, length};
 ghost use Rattle.check_scopes.specs.Counts.{Named, Decls};
 ghost use Rattle.check_rest.specs.Sound.{Sound, SoundBefore};

@@ -1,5 +1,6 @@
 // Questions 10 and 11: each variable is declared once, and used under its decl.
 #![tactic(auto)]
+
 ghost use Rattle.std.specs.Prelude.{◌≡◌, true, ◌+◌, ◌*◌, ◌≤◌, ◌<◌, length};
 ghost use Rattle.records.specs.Format.{most_parameters, most_variables};
 ghost use Rattle.varset.specs.Lowest.{lowest};

@@ -1,5 +1,6 @@
 // Questions 4, 7 and 8: function records, node records and sizes.
 #![tactic(auto)]
+
 ghost use Rattle.std.specs.Prelude.{◌≡◌, not, ◌&&◌, ◌+◌, ◌*◌, ◌≤◌, ◌<◌, eqb, ltb, length};
 ghost use Rattle.records.specs.Fields.{functions, params_of, size_at};
 ghost use Rattle.records.specs.Search.{first_of};

@@ -1,5 +1,6 @@
 // Question 9: expressions stand where expressions are wanted, statements where statements are.
 #![tactic(auto)]
+
 ghost use Rattle.std.specs.Prelude.{◌≡◌, ◌+◌, ◌*◌, ◌≤◌, ◌<◌, min, length};
 ghost use Rattle.varset.specs.Lowest.{pick, lowest};
 ghost use Rattle.records.specs.Fields.{kind_at};

@@ -1,5 +1,6 @@
 // What each expression of a part needs and what each statement does, in a table of five words a node, filled in one pass.
 #![tactic(auto)]
+
 pub mod rows;
 
 ghost use Rattle.std.specs.Prelude.{◌≡◌, true, false, [], ◌∷◌, ◌↔◌, ◌+◌, ◌*◌, ◌≤◌, ◌<◌, length};

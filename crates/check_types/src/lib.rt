@@ -1,5 +1,6 @@
 // Question 12: the type of each node, and the types that nodes want.
 #![tactic(auto)]
+
 ghost use Rattle.std.specs.Prelude.{◌≡◌, ◌+◌, ◌*◌, ◌-◌, ◌≤◌, ◌<◌, length, get_or};
 ghost use Rattle.records.specs.Format.{most_nodes, most_parameters, most_variables};
 ghost use Rattle.records.specs.Fields.{functions, params_of, kind_at};

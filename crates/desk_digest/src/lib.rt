@@ -1,5 +1,6 @@
 // SHA-256, by which the release desk names the bytes that it checked.
 #![tactic(auto)]
+
 mod constants;
 mod padding;
 

@@ -1,5 +1,6 @@
 // Which field of a record is wrong, and how often a variable is declared: what a refusal's sentence says beyond its numbers.
 #![tactic(auto)]
+
 ghost use Rattle.std.specs.Prelude.{◌≡◌, ◌*◌, ◌≤◌, length};
 ghost use Rattle.varset.specs.Lowest.{pick};
 ghost use Rattle.spec_language.specs.Scopes.{decl_count};

@@ -1,5 +1,6 @@
 // A file's bytes by its name, or the error that the system gave, with the system's words for it, and names as they are printed.
 #![tactic(auto)]
+
 ghost use Rattle.std.specs.Prelude.{◌≤◌, length, nat_abs};
 ghost use Rattle.desk_files.specs.Kept.{Inside};
 ghost use Rattle.desk_files.specs.Names.{Plain};

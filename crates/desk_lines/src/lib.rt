@@ -1,5 +1,6 @@
 // What the desk says of a file: a line for people with the function shown below it, or an object for programs.
 #![tactic(auto)]
+
 pub mod counts;
 pub mod objects;
 pub mod strings;

@@ -3,6 +3,7 @@
 // A node is written by a template for its kind, which has the letters of `lines` and these: S and T write the next child as a
 // statement, T one level deeper; E writes it as an expression, A writes all children so, and X the node itself.
 #![tactic(auto)]
+
 pub mod lines;
 pub mod worklist;
 

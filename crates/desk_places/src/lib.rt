@@ -1,5 +1,6 @@
 // Where a refusal's place lies in a procedure file.
 #![tactic(auto)]
+
 ghost use Rattle.std.specs.Prelude.{◌≡◌, ◌+◌, ◌*◌, ◌≤◌, ◌<◌, length};
 ghost use Rattle.records.specs.Fields.{functions as Fields·functions};
 ghost use Rattle.records.specs.Parts.{start_of};

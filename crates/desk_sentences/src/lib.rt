@@ -1,5 +1,6 @@
 // The reason of a refusal as a sentence, for people.
 #![tactic(auto)]
+
 mod header;
 mod ways;
 

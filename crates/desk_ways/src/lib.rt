@@ -1,5 +1,6 @@
 // On which way a variable has no value where it is read: the branch or the loop that a refusal by question 13 names.
 #![tactic(auto)]
+
 mod flow;
 mod known;
 

@@ -1,5 +1,6 @@
 // The entry points that keep a log: a run that writes a record for each step, and a step back by the last record.
 #![tactic(auto)]
+
 ghost use Rattle.std.specs.Prelude.{◌≡◌, true, List, ◌++◌, ℕ, ◌≤◌, length, take};
 ghost use Rattle.spec_image.specs.Sizes.{size};
 ghost use Rattle.spec_machine.specs.Machine.{State};

@@ -1,5 +1,6 @@
 // The entry points that only read lent memory: the memory check and look-up.
 #![tactic(auto)]
+
 ghost use Rattle.std.specs.Prelude.{◌≡◌, true, ◌≤◌, length};
 ghost use Rattle.spec_language.specs.Check.{accepted, check_of};
 ghost use Rattle.check_file.specs.Answers.{says, Small};

@@ -1,5 +1,6 @@
 // The entry point that runs the procedure in a memory.
 #![tactic(auto)]
+
 ghost use Rattle.std.specs.Prelude.{◌≡◌};
 ghost use Rattle.spec_answers.specs.Answers.{run_answer, run_memory};
 ghost use Rattle.entry_run.specs.Replies.{reply_of, SmallReply};

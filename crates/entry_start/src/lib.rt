@@ -1,5 +1,6 @@
 // The entry point that starts a procedure in a memory.
 #![tactic(auto)]
+
 ghost use Rattle.std.specs.Prelude.{◌≡◌, drop, length, ◌++◌, ◌≤◌};
 ghost use Rattle.check_file.specs.Answers.{says, Small};
 ghost use Rattle.spec_image.specs.Image.{image};

@@ -1,5 +1,6 @@
 // What a statement that waits leaves: which variables hold a value after it, and whether it returns; and what an expression reads.
 #![tactic(auto)]
+
 ghost use Rattle.std.specs.Prelude.{◌≡◌, true, ◌↔◌, ◌+◌, ◌*◌, ◌≤◌, ◌<◌, length};
 ghost use Rattle.varset.specs.Sets.{has, Sub};
 ghost use Rattle.records.specs.Fields.{kind_at};

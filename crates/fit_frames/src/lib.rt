@@ -1,5 +1,6 @@
 // The frames of an activation, one by one: whether each suits what comes down to it, and what it hands on.
 #![tactic(auto)]
+
 pub mod descent;
 pub mod operands;
 mod statements;

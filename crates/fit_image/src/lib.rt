@@ -1,5 +1,6 @@
 // The memory check's first half: whether the words of a memory are the image of a state.
 #![tactic(auto)]
+
 ghost use Rattle.std.specs.Prelude.{◌≡◌, true, ◌*◌, ◌≤◌, ◌<◌, length};
 ghost use Rattle.spec_image.specs.Sizes.{activation_size, caller_room, frame_size, frame_room, env_size, size};
 ghost use Rattle.spec_machine.specs.Machine.{State};

@@ -1,5 +1,6 @@
 // Facts of one node of an accepted file: its sort and its type.
 #![tactic(auto)]
+
 ghost use Rattle.std.specs.Prelude.{◌≡◌, true, ◌&&◌, ◌*◌, ◌≤◌, ◌<◌, eqb, ltb, length};
 ghost use Rattle.records.specs.Fields.{vars_of, kind_at};
 ghost use Rattle.spec_language.specs.KindLists.{is_constant, is_statement};

@@ -1,5 +1,6 @@
 // Whether the state that a memory holds is fit for an accepted file's program.
 #![tactic(auto)]
+
 mod holding;
 mod tables;
 

@@ -1,5 +1,6 @@
 // Records of steps in a lent log: what changed in the words of an image, put into bytes and taken out again.
 #![tactic(auto)]
+
 pub mod extent;
 pub mod images;
 pub mod last;

@@ -1,5 +1,6 @@
 // Runs the procedure on standard input for 10,000 steps in a memory of its own, and prints one line: the outcome, or the refusal.
 #![tactic(auto)]
+
 use check_file::Answer;
 use entry_run::Reply;
 use records::format::KEPT_BYTES;

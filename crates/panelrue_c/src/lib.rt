@@ -1,5 +1,6 @@
 // The entry points for a host in C or Rust, on numbers and slices.
 #![tactic(auto)]
+
 mod logs;
 
 ghost use Rattle.std.specs.Prelude.{◌≡◌, [], ◌∷◌, leb, length};

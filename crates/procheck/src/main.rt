@@ -1,5 +1,6 @@
 // Checks the procedure on standard input, and prints one line: passed, or the refusal.
 #![tactic(auto)]
+
 use check_file::Answer;
 use records::format::KEPT_BYTES;
 

@@ -1,5 +1,6 @@
 // The records of a procedure file: numbers in bytes, the fields of the header and of functions, and what a search finds.
 #![tactic(auto)]
+
 pub mod format;
 pub mod nodes;
 pub mod starts;

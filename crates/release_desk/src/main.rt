@@ -3,6 +3,7 @@
 // The names come by standard input, each ended by a zero byte. The first argument may be `show` or `json`, the second `refused`, and
 // the third is the revision that objects name.
 #![tactic(auto)]
+
 use check_file::Answer;
 use desk_files::Content;
 use desk_lines::Style;

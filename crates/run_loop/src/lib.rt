@@ -1,5 +1,6 @@
 // A run in lent memory: the head of the image is taken out into registers, kept there while rules are taken, and put back at the end.
 #![tactic(auto)]
+
 ghost use Rattle.std.specs.Prelude.{◌≡◌, List, ◌++◌, ℕ, ◌+◌, ◌-◌, ◌≤◌, ◌<◌, length};
 ghost use Rattle.std.proofs.Math.Option.{none};
 ghost use Rattle.spec_image.specs.Sizes.{size};

@@ -1,5 +1,6 @@
 // What the rules do to lent memory: each function takes a running state to the next, and says how the run stands then.
 #![tactic(auto)]
+
 pub mod calling;
 pub mod gathering;
 

@@ -1,5 +1,6 @@
 // One step of a running state in lent memory: the rule by the control, the top frame and the node's kind.
 #![tactic(auto)]
+
 mod statements;
 
 ghost use Rattle.std.specs.Prelude.{◌≡◌, true, false, List, [], ◌∷◌, ◌++◌, ℕ, suc, ◌+◌, ◌*◌, ◌-◌, ◌≤◌, ◌<◌, length, get_or};

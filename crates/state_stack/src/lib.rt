@@ -1,5 +1,6 @@
 // The frames and variables of a running state, changed in lent memory; top frame, activations and head are modules of their own.
 #![tactic(auto)]
+
 pub mod activations;
 pub mod head;
 pub mod top;

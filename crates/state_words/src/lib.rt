@@ -1,5 +1,6 @@
 // Values, references and controls in words of lent memory; frames and activations are modules of their own.
 #![tactic(auto)]
+
 pub mod activations;
 pub mod frames;
 pub mod layout;

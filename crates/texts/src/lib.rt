@@ -2,6 +2,7 @@
 //
 // A position counts the bytes that wait at the start of the buffer.
 #![tactic(auto)]
+
 pub mod kinds;
 
 ghost use Rattle.std.specs.Prelude.{◌≡◌, ◌+◌, ◌≤◌, ◌<◌, length};

@@ -1,5 +1,6 @@
 // Sets of variables over a word: member i is bit i.
 #![tactic(auto)]
+
 ghost use Rattle.std.specs.Prelude.{◌≡◌, true, ◌↔◌, ◌<◌, ◌≤◌};
 ghost use Rattle.varset.specs.Lowest.{lowest};
 ghost use Rattle.varset.specs.Sets.{has, none, with, without, both, either, less, below};

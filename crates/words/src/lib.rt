@@ -1,5 +1,6 @@
 // Words of lent memory: cleared, moved, tested for zeros.
 #![tactic(auto)]
+
 ghost use Rattle.std.specs.Prelude.{◌≡◌, [], ◌∷◌, ◌+◌, ◌*◌, ◌≤◌, take, length, replicate};
 ghost use Rattle.words.specs.Blocks.{puts, all_zero};
 ghost use Rattle.words.specs.Moves.{moved};

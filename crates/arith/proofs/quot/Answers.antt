@@ -1,0 +1,18 @@
+use Rattle.std.proofs.Common.{sym, ◌∙◌, rules}
+use lib.Signed.{quot_z}
+use Rattle.arith.specs.Operators.{quot_of}
+use Rattle.arith.proofs.Divisions.{raised, asked, divided_is, quot_fits}
+use Rattle.arith.proofs.quot.Goals as goal
+
+pub returns-then-no_quotient : goal.returns-then-no_quotient
+returns-then-no_quotient c = raised _ _ _ (sym c.no_quotient.ensures ∙ c.if-no_quotient.true)
+
+pub nonzero_div-x : goal.nonzero_div-x
+nonzero_div-x c = asked _ _ c.ranges.a.fits c.ranges.b.fits (sym c.no_quotient.ensures ∙ c.if-no_quotient.false) c.signed-x.ensures c.signed-y.ensures
+
+pub returns : goal.returns
+unfolding quot_of
+returns c = let ha = c.ranges.a.fits in
+    let hb = c.ranges.b.fits in
+    let e = sym c.no_quotient.ensures ∙ c.if-no_quotient.false in
+    divided_is _ _ ha hb e c.signed-x.ensures c.signed-y.ensures quot_z (quot_fits _ _ ha hb e) c.bits.ensures

@@ -1,0 +1,57 @@
+use Rattle.check_file.proofs.FoundPlaces.{placed_lacks}
+use Rattle.check_shape.specs.Failing.{fails}
+use Rattle.spec_language.specs.Nodes.{answers}
+use native.Mathlib.Omega.{arith}
+use Rattle.check_file.proofs.FoundPlaces.{head_inside, placed_first, placed_undeclared, placed_unless, placed_none, past_fourteen}
+use borrow.Author.Rules.{rules}
+use Rattle.check_file.proofs.answer_in.Goals as goal
+
+pub first_undeclared-requires : goal.first_undeclared-requires
+first_undeclared-requires c = ((head_inside _ _ c.requires.0.0 c.requires.0.1, c.requires.0.0.vars _ c.requires.0.1, c.requires.0.0.params _ c.requires.0.1), (search rules, (c.requires.1.1.0 (omega arith)).0.variable))
+
+pub first_outside-requires : goal.first_outside-requires
+first_outside-requires c = (head_inside _ _ c.requires.0.0 c.requires.0.1, (search rules, (c.requires.1.1.0 (omega arith)).0))
+
+pub first_mistyped-requires : goal.first_mistyped-requires
+first_mistyped-requires c = (search rules, (search rules, c.requires.1.1.0 (omega arith)))
+
+pub first_lacking-requires : goal.first_lacking-requires
+first_lacking-requires c = ((head_inside _ _ c.requires.0.0 c.requires.0.1, c.requires.0.0.params _ c.requires.0.1), ((c.requires.1.1.1 (omega arith)).0, search rules, (c.requires.1.1.1 (omega arith)).1))
+
+pub not_returning-requires : goal.not_returning-requires
+not_returning-requires c = ((c.requires.1.1.1 (omega arith)).0, search rules, (c.requires.1.1.1 (omega arith)).1)
+
+pub returns-in-7 : goal.returns-in-7
+unfolding answers fails
+returns-in-7 c = (rw c.in-7.is c.first_node.ensures, placed_first _ _ _ c.first_node.ensures)
+
+pub returns-in-8 : goal.returns-in-8
+unfolding answers fails
+returns-in-8 c = (rw c.in-8.is c.first_node-in-8.ensures, placed_first _ _ _ c.first_node-in-8.ensures)
+
+pub returns-in-9 : goal.returns-in-9
+unfolding answers fails
+returns-in-9 c = (rw c.in-9.is c.first_misplaced.ensures, placed_first _ _ _ c.first_misplaced.ensures)
+
+pub returns-in-10 : goal.returns-in-10
+unfolding answers fails
+returns-in-10 c = (rw c.in-10.is c.first_undeclared.ensures, placed_undeclared _ _ _ _ c.first_undeclared.ensures (c.requires.0.0.vars _ c.requires.0.1) (search rules))
+
+pub returns-in-11 : goal.returns-in-11
+unfolding answers fails
+returns-in-11 c = (rw c.in-11.is c.first_outside.ensures, placed_first _ _ _ c.first_outside.ensures)
+
+pub returns-in-12 : goal.returns-in-12
+unfolding answers fails
+returns-in-12 c = (rw c.in-12.is c.first_mistyped.ensures, placed_first _ _ _ c.first_mistyped.ensures)
+
+pub returns-in-13 : goal.returns-in-13
+unfolding answers fails
+returns-in-13 c = (rw c.in-13.is c.first_lacking.ensures.0, placed_lacks _ _ (c.requires.1.1.0 (omega arith)).0 _ _ c.first_lacking.ensures.0 (search rules))
+
+pub returns-in-14 : goal.returns-in-14
+unfolding answers fails
+returns-in-14 c = (rw c.in-14.is c.not_returning.ensures, placed_unless _ _ _ c.not_returning.ensures (search rules))
+
+pub returns-in_default : goal.returns-in_default
+returns-in_default c = (past_fourteen _ _ _ _ _ (search rules) c.in_default.rest.0.0.0.0.0.0.0.1 c.in_default.rest.0.0.0.0.0.0.1 c.in_default.rest.0.0.0.0.0.1 c.in_default.rest.0.0.0.0.1 c.in_default.rest.0.0.0.1 c.in_default.rest.0.0.1 c.in_default.rest.0.1 c.in_default.rest.1, placed_none _)

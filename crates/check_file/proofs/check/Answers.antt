@@ -1,0 +1,28 @@
+use borrow.Author.Tests.{not-true, not-false}
+use Rattle.check_file.specs.Answers.{says}
+use mathlib.Core.Path.{sym, ◌∙◌}
+use Rattle.check_file.proofs.Stages.{not_twelves, too_short, two_fails, three_fails, three_passes}
+use borrow.Author.Rules.{rules}
+use Rattle.check_file.proofs.check.Goals as goal
+
+pub returns-then-len-ne0 : goal.returns-then-len-ne0
+unfolding says
+returns-then-len-ne0 c = (sym (not_twelves _ c.if-len-ne0.true), (search rules, search rules))
+
+pub returns-then-len-lt-SHORTEST_FILE : goal.returns-then-len-lt-SHORTEST_FILE
+unfolding says
+returns-then-len-lt-SHORTEST_FILE c = (sym (too_short _ c.if-len-ne0.false c.if-len-lt-SHORTEST_FILE.true), (search rules, search rules))
+
+pub returns-then-not-header_ok : goal.returns-then-not-header_ok
+unfolding says
+returns-then-not-header_ok c = (sym (two_fails _ c.if-len-ne0.false c.if-len-lt-SHORTEST_FILE.false (sym c.header_ok.ensures ∙ not-true _ c.if-not-header_ok.true-raw)), (search rules, search rules))
+
+pub returns-then-not-records_ok : goal.returns-then-not-records_ok
+unfolding says
+returns-then-not-records_ok c = (sym (three_fails _ c.if-len-ne0.false c.if-len-lt-SHORTEST_FILE.false (sym c.header_ok.ensures ∙ not-false _ c.if-not-header_ok.false-raw) (sym c.records_ok.ensures ∙ not-true _ c.if-not-records_ok.true-raw)), (search rules, search rules))
+
+pub check_functions-requires : goal.check_functions-requires
+check_functions-requires c = (search rules, sym c.header_ok.ensures ∙ not-false _ c.if-not-header_ok.false-raw, sym c.records_ok.ensures ∙ not-false _ c.if-not-records_ok.false-raw)
+
+pub returns : goal.returns
+returns c = (c.check_functions.ensures.0 ∙ sym (three_passes _ c.if-len-ne0.false c.if-len-lt-SHORTEST_FILE.false (sym c.header_ok.ensures ∙ not-false _ c.if-not-header_ok.false-raw) (sym c.records_ok.ensures ∙ not-false _ c.if-not-records_ok.false-raw)), c.check_functions.ensures.1)

@@ -1,0 +1,16 @@
+use Rattle.check_file.proofs.Passing.{Cleared, cleared_none, cleared_next, cleared_all, part_room, part_within, part_asks}
+use Rattle.records.proofs.PartWalks.{start_first, start_next}
+use Rattle.records.specs.Parts.{start_of}
+use mathlib.Core.Path.{◌≡◌, refl, ◌∙◌}
+use lib.ListN.{length}
+use Prim.Native.Nat.{◌-◌, ◌≤◌}
+use Rattle.check_file.proofs.Rounds.{none_passed}
+use borrow.Author.Rules.{rules}
+use native.Mathlib.Omega.{arith}
+use Rattle.check_file.proofs.sizes.parts_floor.Given as goal
+
+abbrev pub invariant-loop-f : goal.invariant-loop-f
+invariant-loop-f l = (l.f ≤ l.functions) × (l.start ≡ start_of l.file l.f) × ((length l.codes ≡ length l.initial.codes) × (length l.reads ≡ length l.initial.reads) × (length l.sets ≡ length l.initial.sets)) × Cleared l.file l.f l.least × (7 ≤ l.least) × (l.least ≤ 15)
+
+abbrev pub decreases-loop-f : goal.decreases-loop-f
+decreases-loop-f l = l.functions - l.f

@@ -1,0 +1,11 @@
+use Rattle.check_flow.proofs.Descending.{lacking_within}
+use Rattle.spec_language.specs.Flow.{lacks}
+use Rattle.records.specs.Fields.{params_of}
+use Rattle.varset.specs.Sets.{below}
+use Prim.Native.Nat.{◌-◌}
+use mathlib.Core.Path.{◌≡◌, ◌∙◌}
+use borrow.Author.Rules.{rules}
+use Rattle.check_flow.proofs.first_lacking.Goals as goal
+
+pub returns : goal.returns
+returns c = let e : c.first_empty.result ≡ lacks (statement_at c.args.part.now (c.args.n - 1)) (below (params_of c.args.file.now c.args.f)) = c.first_empty.ensures ∙ rw (c.below.ensures, c.wide.ensures.0, c.params_of.ensures) in (e, lacking_within _ c.requires.1.0.nodes c.requires.1.1 e)

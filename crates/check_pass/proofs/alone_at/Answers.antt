@@ -1,0 +1,20 @@
+use mathlib.Core.Path.{sym, ◌∙◌}
+use native.Mathlib.Omega.{arith}
+use Rattle.check_pass.proofs.ByKind.{int_leaf, bool_leaf, nop_leaf, nothing_leaf}
+use borrow.Author.Rules.{rules}
+use Rattle.check_pass.proofs.alone_at.Goals as goal
+
+pub leaf_at-requires : goal.leaf_at-requires
+leaf_at-requires c = (c.requires, int_leaf _ _ _ _ _ (sym c.kind_at-kind.ensures ∙ c.in-0.is))
+
+pub leaf_at-requires-in-1 : goal.leaf_at-requires-in-1
+leaf_at-requires-in-1 c = (c.requires, bool_leaf _ _ _ _ _ (sym c.kind_at-kind.ensures ∙ c.in-1.is))
+
+pub leaf_at-requires-in-6 : goal.leaf_at-requires-in-6
+leaf_at-requires-in-6 c = (c.requires, nop_leaf _ _ _ _ _ (sym c.kind_at-kind.ensures ∙ c.in-6.is))
+
+pub leaf_at-requires-in-15 : goal.leaf_at-requires-in-15
+leaf_at-requires-in-15 c = (c.requires, nothing_leaf _ _ _ _ _ (sym c.kind_at-kind.ensures ∙ c.in-15.is))
+
+pub returns-in_default : goal.returns-in_default
+returns-in_default c = λ l. absurd (omega (arith, c.plain.ensures.0))

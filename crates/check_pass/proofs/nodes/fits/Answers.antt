@@ -1,0 +1,6 @@
+use Rattle.check_pass.proofs.Kids.{fits-is}
+use borrow.Author.Rules.{rules}
+use Rattle.check_pass.proofs.nodes.fits.Goals as goal
+
+pub returns : goal.returns
+returns c = fits-is _ _ _ _ c.size_at.ensures.0

@@ -1,0 +1,19 @@
+use Prim.Native.Nat.{◌-◌, ◌≤◌}
+use native.Mathlib.Omega.{arith}
+use lib.Dec.{lit≤}
+use borrow.Author.Rules.{rules}
+use Rattle.check_rest.specs.Sound.{SoundBefore}
+use Rattle.check_rest.proofs.Sounds.{sound, sound_next}
+use Rattle.check_rest.proofs.floor_from.Goals as goal
+
+pub loop-i-init : goal.loop-i-init
+loop-i-init c = (c.requires.0.2, c.requires.1.1, lit≤ tt, lit≤ tt)
+
+pub returns-then-least-lt9 : goal.returns-then-least-lt9
+returns-then-least-lt9 c = (λ k l. sound _ _ _ _ k 8 (λ z. absurd (omega arith)) (λ z. absurd (omega arith)) (λ z. absurd (omega arith)), lit≤ tt, lit≤ tt)
+
+pub loop-i-preserved : goal.loop-i-preserved
+loop-i-preserved c = (search rules, sound_next _ _ _ _ _ c.lower-least.ensures.1 c.lower-least.ensures.0 c.loop-i.invariant.1 c.node_floor.ensures.0, c.lower-least.ensures.3 c.node_floor.ensures.1 c.loop-i.invariant.2, omega (arith, c.lower-least.ensures.1, c.loop-i.invariant.3))
+
+pub returns : goal.returns
+returns c = (λ k l. c.loop-i.invariant.1 k (omega (arith, c.loop-i-test.false)), c.loop-i.invariant.2, c.loop-i.invariant.3)

@@ -1,0 +1,16 @@
+use mathlib.Core.Path.{◌≡◌, refl}
+use Prim.Native.Nat.{◌≤◌, ◌-◌}
+use lib.ListN.{length}
+use borrow.Author.Count.{below_none, below_more}
+use borrow.Author.Rules.{rules}
+use Rattle.spec_language.specs.Nodes.{mistyped}
+use Rattle.records.proofs.Loops.{Below, first-at, first-none}
+use Rattle.check_types.proofs.Agree.{mistyped_is, typed_more}
+use Rattle.check_types.specs.Types.{NodesTyped}
+use Rattle.check_types.proofs.first_mistyped.Given as goal
+
+abbrev pub invariant-loop-i : goal.invariant-loop-i
+invariant-loop-i l = (l.i ≤ l.n) × Below (mistyped l.file l.f l.part l.n) l.i × NodesTyped l.file l.f l.part l.n l.i l.types × (length l.types ≡ 4096)
+
+abbrev pub decreases-loop-i : goal.decreases-loop-i
+decreases-loop-i l = l.n - l.i

@@ -1,0 +1,10 @@
+use Rattle.std.proofs.Common.{◌≡◌, ◌-◌, ◌≤◌, refl, ◌∙◌, add-one, arith, rules}
+use Rattle.desk_digest.specs.Constants.{constants}
+use Rattle.desk_digest.specs.Sha256.{rounds, compress}
+use Rattle.desk_digest.proofs.compress.Given as goal
+
+abbrev pub invariant-loop-t : goal.invariant-loop-t
+invariant-loop-t l = (l.t ≤ 64) × (l.turned ≡ rounds l.s l.w l.t)
+
+abbrev pub decreases-loop-t : goal.decreases-loop-t
+decreases-loop-t l = 64 - l.t

@@ -1,0 +1,15 @@
+use Rattle.std.proofs.Common.{◌≡◌, ◌-◌, ◌≤◌, length, take, sym, refl, ap, ◌∙◌, arith, length-set, take_all, rules}
+use Rattle.desk_digest.specs.Padding.{padded}
+use Rattle.desk_digest.specs.Sha256.{schedule}
+use Rattle.desk_digest.proofs.Schedules.{filled}
+use Rattle.desk_digest.proofs.schedule.Goals as goal
+
+pub loop-t-init : goal.loop-t-init
+unfolding schedule
+loop-t-init c = (search rules, refl, refl)
+
+pub loop-t-preserved : goal.loop-t-preserved
+loop-t-preserved c = let b = c.loop-t in (search rules, simp length-set b.invariant.1, filled _ _ _ _ _ (omega (arith, b.invariant.1)) c.schedule_word-x.ensures b.invariant.2)
+
+pub returns : goal.returns
+returns c = let b = c.loop-t in let e : b.t ≡ 64 = omega arith in sym (take_all b.t b.w (omega (arith, b.invariant.1))) ∙ b.invariant.2 ∙ ap (schedule (padded c.args.bytes.now) c.args.at) e

@@ -1,0 +1,11 @@
+use Rattle.std.proofs.Common.{◌≡◌, ◌-◌, ◌/◌, ◌≤◌, length, ◌∙◌, add-one, arith, rules}
+use Rattle.desk_digest.specs.Padding.{padded}
+use Rattle.desk_digest.specs.Sha256.{hash, sha256}
+use Rattle.desk_digest.proofs.Paddings.{padded_length}
+use Rattle.desk_digest.proofs.sha256.Given as goal
+
+abbrev pub invariant-loop-i : goal.invariant-loop-i
+invariant-loop-i l = (l.i ≤ l.count) × (l.s ≡ hash (padded l.bytes) l.i)
+
+abbrev pub decreases-loop-i : goal.decreases-loop-i
+decreases-loop-i l = l.count - l.i

@@ -1,0 +1,17 @@
+use mathlib.Core.Path.{◌≡◌}
+use Prim.Native.Nat.{◌+◌, ◌*◌, ◌-◌, ◌≤◌}
+use native.Mathlib.Omega.{arith}
+use borrow.Author.Count.{below_none, below_more}
+use borrow.Author.Rules.{rules}
+use Rattle.records.specs.Parts.{start_of}
+use Rattle.records.proofs.Loops.{Below}
+use Rattle.records.proofs.PartWalks.{start_first, start_next}
+use Rattle.desk_places.proofs.Holding.{Ends, held, passed, held_none}
+use Rattle.desk_places.proofs.locate_node.Given as goal
+
+abbrev pub invariant-loop-f : goal.invariant-loop-f
+invariant-loop-f l = (l.f ≤ l.functions) × (l.start ≡ start_of l.file l.f) × (l.start ≤ l.place)
+    × (l.start + 4294967296 * (l.functions - l.f) ≤ 1 + l.functions + 4294967296 * l.functions) × Below (Ends l.file l.place) l.f
+
+abbrev pub decreases-loop-f : goal.decreases-loop-f
+decreases-loop-f l = l.functions - l.f

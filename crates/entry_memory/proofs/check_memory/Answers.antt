@@ -1,0 +1,26 @@
+use Rattle.check_file.specs.Answers.{says}
+use mathlib.Core.Path.{sym, ap, ◌∙◌}
+use borrow.Author.Tests.{not-true, not-false}
+use Rattle.entry_memory.proofs.Questions.{memory_early, memory_short, memory_none, memory_held}
+use borrow.Author.Rules.{rules}
+use Rattle.entry_memory.proofs.check_memory.Goals as goal
+
+pub returns-in-Refused : goal.returns-in-Refused
+unfolding says
+returns-in-Refused c = (memory_early _ _ _ _ _ (sym c.check.ensures.0 ∙ ap says c.in-Refused.is), rw c.in-Refused.is at c.check.ensures.1)
+
+pub returns-then-m-lt-IMAGE_WORDS : goal.returns-then-m-lt-IMAGE_WORDS
+unfolding says
+returns-then-m-lt-IMAGE_WORDS c = (memory_short _ _ (sym c.check.ensures.0 ∙ ap says c.in_default.is) c.if-m-lt-IMAGE_WORDS.true, (search rules, search rules))
+
+pub holds_fit-requires : goal.holds_fit-requires
+unfolding says
+holds_fit-requires c = (sym c.check.ensures.0 ∙ ap says c.in_default.is, c.if-m-lt-IMAGE_WORDS.false)
+
+pub returns-then-not-holds_fit : goal.returns-then-not-holds_fit
+unfolding says
+returns-then-not-holds_fit c = (memory_none _ _ (sym c.check.ensures.0 ∙ ap says c.in_default.is) c.if-m-lt-IMAGE_WORDS.false (sym c.holds_fit.ensures ∙ not-true _ c.if-not-holds_fit.true-raw), (search rules, search rules))
+
+pub returns : goal.returns
+unfolding says
+returns c = (memory_held _ _ (sym c.check.ensures.0 ∙ ap says c.in_default.is) c.if-m-lt-IMAGE_WORDS.false (sym c.holds_fit.ensures ∙ not-false _ c.if-not-holds_fit.false-raw), tt)

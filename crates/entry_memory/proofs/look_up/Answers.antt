@@ -1,0 +1,27 @@
+use Rattle.check_file.specs.Answers.{says}
+use mathlib.Core.Path.{sym, ap, ◌∙◌}
+use borrow.Author.Tests.{not-true, not-false}
+use Rattle.entry_memory.specs.Looks.{look_of}
+use Rattle.entry_memory.proofs.Questions.{room_held, state_held, look_early, look_none, look_granted}
+use borrow.Author.Rules.{rules}
+use Rattle.entry_memory.proofs.look_up.Goals as goal
+
+pub returns-in-Refused : goal.returns-in-Refused
+unfolding says look_of
+returns-in-Refused c = (rw (look_early _ _ _ _ _ _ (sym c.check_memory.ensures.0 ∙ ap says c.in-Refused.is)), rw c.in-Refused.is at c.check_memory.ensures.1)
+
+pub has_variable-requires : goal.has_variable-requires
+unfolding says
+has_variable-requires c = let e = sym c.check_memory.ensures.0 ∙ ap says c.in_default.is in (room_held _ _ e, state_held _ _ e)
+
+pub returns-then-not-has_variable : goal.returns-then-not-has_variable
+unfolding says look_of
+returns-then-not-has_variable c = (rw (look_none _ _ _ (sym c.check_memory.ensures.0 ∙ ap says c.in_default.is) (sym c.has_variable.ensures ∙ not-true _ c.if-not-has_variable.true-raw)), (search rules, search rules))
+
+pub value_in-requires : goal.value_in-requires
+unfolding says
+value_in-requires c = let e = sym c.check_memory.ensures.0 ∙ ap says c.in_default.is in (room_held _ _ e, state_held _ _ e, sym c.has_variable.ensures ∙ not-false _ c.if-not-has_variable.false-raw)
+
+pub returns : goal.returns
+unfolding says
+returns c = (c.look_of.ensures.0 ∙ rw (c.value_in.ensures, look_granted _ _ _ (sym c.check_memory.ensures.0 ∙ ap says c.in_default.is) (sym c.has_variable.ensures ∙ not-false _ c.if-not-has_variable.false-raw)), c.look_of.ensures.1)

@@ -1,0 +1,15 @@
+use Rattle.check_summary.proofs.Passing.{held_is}
+use Rattle.fit_flow.proofs.Looking.{row_room, expression_row}
+use Rattle.fit_nodes.proofs.Sorts.{expression_inside}
+use Rattle.spec_machine.specs.File.{program_of}
+use mathlib.Core.Path.{◌∙◌}
+use borrow.Author.Rules.{rules}
+use Rattle.fit_flow.proofs.reads_held.Goals as goal
+
+pub needs_at-requires : goal.needs_at-requires
+needs_at-requires c = row_room c.requires.0 c.requires.1 (expression_inside c.requires.0 _ c.requires.2)
+
+pub returns : goal.returns
+unfolding program_of
+returns c = let n = rw (← c.needs_at.ensures) at (expression_row c.requires.0 c.requires.1 _ c.requires.2) in
+    held_is _ n c.is_within.ensures ∙ rw c.requires.0.part

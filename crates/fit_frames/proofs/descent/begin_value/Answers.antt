@@ -1,0 +1,6 @@
+use mathlib.Core.Path.{refl, ◌∙◌}
+use borrow.Author.Rules.{rules}
+use Rattle.fit_frames.proofs.descent.begin_value.Goals as goal
+
+pub returns : goal.returns
+returns c P f v e = record { ok = refl; on = λ t. c.giving.ensures ∙ rw e }

@@ -1,0 +1,18 @@
+use mathlib.Core.Path.{◌≡◌, refl, sym, ◌∙◌}
+use Prim.Native.Nat.{◌+◌, ◌*◌, ◌≤◌}
+use native.Mathlib.Omega.{arith}
+use borrow.Author.Tests.{not-true, not-false}
+use Rattle.words.specs.Stacks.{entries, chain}
+use Rattle.spec_machine.specs.File.{program_of}
+use Rattle.spec_image.specs.Decode.{frame_of}
+use Rattle.fit_frames.specs.Incoming.{frame_fits, hands_on, ends}
+use Rattle.fit_frames.specs.Meaning.{incoming_is}
+use Rattle.fit_frames.proofs.Chains.{chain_less, chain_more, chain_end}
+use borrow.Author.Rules.{rules}
+use Rattle.fit_frames.proofs.descent.frames_fit.Given as goal
+
+abbrev pub invariant-loop-i : goal.invariant-loop-i
+invariant-loop-i l = (l.i ≤ l.k) × (chain (frame_fits (program_of l.file) l.f) (hands_on (program_of l.file) l.f) ends (incoming_is l.initial.down) (entries 20 frame_of l.m (4480 + l.low * 20) l.k) ≡ chain (frame_fits (program_of l.file) l.f) (hands_on (program_of l.file) l.f) ends (incoming_is l.down) (entries 20 frame_of l.m (4480 + l.low * 20) l.i))
+
+abbrev pub decreases-loop-i : goal.decreases-loop-i
+decreases-loop-i l = l.i

@@ -1,0 +1,19 @@
+use mathlib.Core.Path.{◌≡◌, refl, sym, ◌∙◌}
+use Prim.Native.Nat.{◌+◌, ◌*◌, ◌-◌, ◌≤◌}
+use lib.ListN.{drop}
+use borrow.Author.Tests.{not-true, not-false}
+use Rattle.varset.specs.Sets.{has}
+use Rattle.spec_machine.specs.File.{program_of}
+use Rattle.spec_image.specs.Decode.{nodes_of}
+use Rattle.spec_language.specs.Types.{mask_type}
+use Rattle.fit_frames.specs.Operands.{nodes_suit}
+use Rattle.fit_frames.specs.Slots.{slots_in}
+use Rattle.fit_frames.proofs.FrameSlots.{nodes_more, nodes_less, nodes_end}
+use borrow.Author.Rules.{rules}
+use Rattle.fit_frames.proofs.operands.nodes_suit.Given as goal
+
+abbrev pub invariant-loop-j : goal.invariant-loop-j
+invariant-loop-j l = (l.j ≤ l.end) × (nodes_suit (program_of l.file) l.f (has l.set.0) (mask_type l.bools l.arrays l.grids) (l.y + 1) (nodes_of (l.end - l.y) (drop (2 * l.y) (slots_in l.m l.i))) ≡ nodes_suit (program_of l.file) l.f (has l.set.0) (mask_type l.bools l.arrays l.grids) (l.j + 1) (nodes_of (l.end - l.j) (drop (2 * l.j) (slots_in l.m l.i))))
+
+abbrev pub decreases-loop-j : goal.decreases-loop-j
+decreases-loop-j l = l.end - l.j

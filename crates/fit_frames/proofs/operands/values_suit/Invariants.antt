@@ -1,0 +1,16 @@
+use lib.ListN.{get_or, drop}
+use mathlib.Core.Path.{◌≡◌, sym, ◌∙◌}
+use Prim.Native.Nat.{◌*◌, ◌-◌, ◌≤◌}
+use Rattle.spec_image.specs.Decode.{values_of}
+use Rattle.spec_language.specs.Types.{mask_type}
+use Rattle.fit_frames.specs.Operands.{values_suit}
+use Rattle.fit_frames.specs.Slots.{slots_in}
+use Rattle.fit_frames.proofs.FrameSlots.{values_more, values_less, values_end, values_all}
+use borrow.Author.Rules.{rules}
+use Rattle.fit_frames.proofs.operands.values_suit.Given as goal
+
+abbrev pub invariant-loop-k : goal.invariant-loop-k
+invariant-loop-k l = (l.k ≤ l.y) × (values_suit (mask_type l.bools l.arrays l.grids) 0 (values_of l.y (slots_in l.m l.i)) ≡ values_suit (mask_type l.bools l.arrays l.grids) l.k (values_of (l.y - l.k) (drop (2 * l.k) (slots_in l.m l.i))))
+
+abbrev pub decreases-loop-k : goal.decreases-loop-k
+decreases-loop-k l = l.y - l.k

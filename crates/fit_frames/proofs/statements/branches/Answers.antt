@@ -1,0 +1,7 @@
+use mathlib.Core.Path.{◌∙◌}
+use Rattle.fit_frames.proofs.Steps.{branch_law}
+use borrow.Author.Rules.{rules}
+use Rattle.fit_frames.proofs.statements.branches.Goals as goal
+
+pub returns : goal.returns
+returns c = branch_law c.requires.1.1.0 c.requires.1.1.1 c.requires.1.0.0 c.requires.1.0.1 (rw (c.through-p.ensures.0, c.through-o.ensures.0)) (c.bare-down.ensures ∙ rw (c.meet.ensures, c.through-p.ensures.1, c.through-o.ensures.1, c.returning-ends.ensures, c.returning.ensures))

@@ -1,0 +1,27 @@
+use Rattle.fit_image.specs.BlockTests.{control_ok}
+use Rattle.fit_image.proofs.NoSuchTags.{no_form}
+use mathlib.Core.Path.{sym}
+use Rattle.fit_image.proofs.control_ok.Goals as goal
+
+pub returns-in-1 : goal.returns-in-1
+unfolding control_ok
+returns-in-1 c = rw c.in-1.is
+
+pub returns-in-2 : goal.returns-in-2
+unfolding control_ok
+returns-in-2 c = rw c.in-2.is
+
+pub returns-in-3 : goal.returns-in-3
+unfolding control_ok
+returns-in-3 c = rw c.in-3.is
+
+pub returns-in-4 : goal.returns-in-4
+unfolding control_ok
+returns-in-4 c = rw c.in-4.is
+
+pub returns-in-5 : goal.returns-in-5
+unfolding control_ok
+returns-in-5 c = rw c.in-5.is
+
+pub returns-in_default : goal.returns-in_default
+returns-in_default c = sym (no_form _ _ c.in_default.rest.0.0.0.0.1 c.in_default.rest.0.0.0.1 c.in_default.rest.0.0.1 c.in_default.rest.0.1 c.in_default.rest.1)

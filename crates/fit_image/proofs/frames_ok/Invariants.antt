@@ -1,0 +1,16 @@
+use Prim.Native.Nat.{◌≤◌}
+use mathlib.Core.Path.{◌≡◌, refl, sym, ◌∙◌}
+use native.Mathlib.Omega.{arith}
+use borrow.Author.Tests.{not-true, not-false}
+use Rattle.fit_image.specs.BlockTests.{frame_ok}
+use Rattle.fit_image.specs.MemoryTest.{passing}
+use Rattle.fit_image.proofs.Loops.{passing_more, passing_less, passing_end}
+use Rattle.fit_image.proofs.Rooms.{frames_less, frames_end}
+use borrow.Author.Rules.{rules}
+use Rattle.fit_image.proofs.frames_ok.Given as goal
+
+abbrev pub invariant-loop-i : goal.invariant-loop-i
+invariant-loop-i l = (l.i ≤ l.n) × (passing 20 frame_ok l.m 4480 l.n ≡ passing 20 frame_ok l.m 4480 l.i)
+
+abbrev pub decreases-loop-i : goal.decreases-loop-i
+decreases-loop-i l = l.i

@@ -1,0 +1,15 @@
+use Prim.Native.Nat.{◌≤◌, ◌*◌, ◌-◌}
+use mathlib.Core.Path.{◌≡◌, ◌∙◌, sym}
+use native.Mathlib.Omega.{arith}
+use lib.ListN.{drop}
+use borrow.Author.Tests.{not-true, not-false}
+use Rattle.fit_image.specs.BlockTests.{values_ok}
+use Rattle.fit_image.proofs.Loops.{values_start, values_more, values_less, values_end}
+use borrow.Author.Rules.{rules}
+use Rattle.fit_image.proofs.values_ok.Given as goal
+
+abbrev pub invariant-loop-i : goal.invariant-loop-i
+invariant-loop-i l = (l.i ≤ l.n) × (values_ok (l.n - l.i) (drop (2 * l.i) l.s) ≡ values_ok l.n l.s)
+
+abbrev pub decreases-loop-i : goal.decreases-loop-i
+decreases-loop-i l = l.n - l.i

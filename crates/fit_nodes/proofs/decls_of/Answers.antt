@@ -1,0 +1,6 @@
+use Rattle.fit_nodes.proofs.AcceptedParts.{inside, named}
+use borrow.Author.Rules.{rules}
+use Rattle.fit_nodes.proofs.decls_of.Goals as goal
+
+pub decl_table-requires : goal.decl_table-requires
+decl_table-requires c = (inside c.requires, named c.requires)

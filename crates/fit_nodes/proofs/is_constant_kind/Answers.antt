@@ -1,0 +1,16 @@
+use mathlib.Core.Path.{◌≡◌, refl, sym}
+use mathlib.Core.Bool.{true}
+use Prim.Native.Nat.{zero-le}
+use native.Mathlib.Omega.{arith}
+use Rattle.spec_language.specs.KindLists.{constants, is_constant}
+use Rattle.spec_language.proofs.KindLists.{none_of, in_range}
+use Rattle.fit_nodes.proofs.is_constant_kind.Goals as goal
+
+pub returns-in-15 : goal.returns-in-15
+returns-in-15 c = rw c.in-15.is
+
+pub returns-in-0-to-1 : goal.returns-in-0-to-1
+returns-in-0-to-1 c = in_range (λ k. true ≡ is_constant k) 0 2 (refl, (refl, refl)) _ zero-le c.if-kind-lt2.true
+
+pub returns-in_default : goal.returns-in_default
+returns-in_default c = sym (none_of constants _ (λ e. omega (arith, c.if-kind-lt2.false), (λ e. omega (arith, c.if-kind-lt2.false), (c.in_default-1.rest.1, tt))))

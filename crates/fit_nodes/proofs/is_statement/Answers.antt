@@ -1,0 +1,26 @@
+use mathlib.Core.Path.{◌∙◌}
+use Rattle.fit_nodes.proofs.AcceptedParts.{inside}
+use Rattle.fit_nodes.proofs.Refs.{nop_is, node_is, if_is, seq_is}
+use borrow.Author.Rules.{rules}
+use Rattle.fit_nodes.proofs.is_statement.Goals as goal
+
+pub is_statement_node-requires : goal.is_statement_node-requires
+is_statement_node-requires c = inside c.requires
+
+pub is_while-requires : goal.is_while-requires
+is_while-requires c = inside c.requires
+
+pub is_while-requires-in-SeqOf : goal.is_while-requires-in-SeqOf
+is_while-requires-in-SeqOf c = inside c.requires
+
+pub returns-in-Nop : goal.returns-in-Nop
+returns-in-Nop c = nop_is c.requires c.in-Nop.is
+
+pub returns-in-Node : goal.returns-in-Node
+returns-in-Node c = c.is_statement_node.ensures ∙ node_is c.requires c.in-Node.is
+
+pub returns-in-IfOf : goal.returns-in-IfOf
+returns-in-IfOf c = c.is_while.ensures ∙ if_is c.requires c.in-IfOf.is
+
+pub returns-in-SeqOf : goal.returns-in-SeqOf
+returns-in-SeqOf c = c.is_while-in-SeqOf.ensures ∙ seq_is c.requires c.in-SeqOf.is

@@ -1,0 +1,10 @@
+use mathlib.Core.Path.{◌∙◌}
+use Rattle.fit_nodes.proofs.AcceptedParts.{variable_asks}
+use Rattle.fit_nodes.proofs.Sorts.{variable_type}
+use Rattle.fit_nodes.proofs.variable_type.Goals as goal
+
+pub var_type-requires : goal.var_type-requires
+var_type-requires c = let a = variable_asks c.requires.0 c.requires.2 in (a.0, (a.1, c.requires.1))
+
+pub returns : goal.returns
+returns c = c.var_type.ensures ∙ variable_type c.requires.0 c.requires.2

@@ -1,0 +1,23 @@
+use lib.ListN.{length, get_or}
+use mathlib.Core.Path.{◌≡◌, refl, sym, ◌∙◌}
+use Prim.Native.Nat.{◌-◌, ◌≤◌, ◌<◌}
+use native.Mathlib.Omega.{arith}
+use borrow.Author.Tests.{not-true, not-false, ltb-true}
+use Rattle.records.specs.Fields.{functions, count_of}
+use Rattle.records.specs.Parts.{part_of}
+use Rattle.check_summary.specs.Tables.{RowsFilled}
+use Rattle.spec_machine.specs.File.{program_of, fun_of}
+use Rattle.spec_image.specs.Decode.{activations_to, held_in}
+use Rattle.fit_frames.proofs.Files.{record_in_lem}
+use Rattle.fit_state.specs.Activations.{calls, callers_fit}
+use Rattle.fit_state.specs.Meaning.{over_is, frames_to}
+use Rattle.fit_state.proofs.Lists.{callers_less, callers_more, callers_end, fit_known, held_last}
+use Rattle.state_words.proofs.Totals.{total_last}
+use borrow.Author.Rules.{rules}
+use Rattle.fit_state.proofs.callers_fit.Given as goal
+
+abbrev pub invariant-loop-a : goal.invariant-loop-a
+invariant-loop-a l = (l.a ≤ l.n) × (l.g < functions l.file) × (l.top ≡ held_in l.m l.a) × (l.top ≤ 512) × (callers_fit (program_of l.file) (get_or l.m 14721 0) l.f (activations_to l.m l.n) (frames_to l.m l.high) ≡ callers_fit (program_of l.file) (get_or l.m 14721 0) l.g (activations_to l.m l.a) (frames_to l.m l.top)) × (length l.table ≡ length l.initial.table) × RowsFilled (part_of l.file l.g) l.table (count_of l.file l.g)
+
+abbrev pub decreases-loop-a : goal.decreases-loop-a
+decreases-loop-a l = l.a

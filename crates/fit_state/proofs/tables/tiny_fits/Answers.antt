@@ -1,0 +1,8 @@
+use Rattle.fit_frames.proofs.Files.{laid}
+use Rattle.check_summary.proofs.Rooms.{table_room}
+use mathlib.Core.Logic.{inl}
+use borrow.Author.Rules.{rules}
+use Rattle.fit_state.proofs.tables.tiny_fits.Goals as goal
+
+pub running_fits-requires : goal.running_fits-requires
+running_fits-requires c = let p = c.requires in (p.0, table_room _ 32 (laid _ p.0.0) (inl p.1))

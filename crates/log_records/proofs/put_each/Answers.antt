@@ -1,0 +1,23 @@
+use mathlib.Core.Path.{◌≡◌, refl, sym, ap, ◌∙◌}
+use mathlib.Core.Logic.{⊎_elim}
+use Prim.Native.Nat.{◌-◌}
+use native.Mathlib.Omega.{arith}
+use lib.ListN.{length}
+use borrow.Author.Rules.{rules}
+use Rattle.log_records.proofs.Puts.{Putting, put_none, same_put, put_room, other_put, put_all}
+use Rattle.log_records.proofs.put_each.Goals as goal
+
+pub loop-i-init : goal.loop-i-init
+loop-i-init c = put_none _ _ _ _ _
+
+pub put_change-requires : goal.put_change-requires
+put_change-requires c = put_room c.loop-i.invariant c.loop-i-test.true c.requires.0 c.if-old-new.true c.requires.2
+
+pub loop-i-preserved : goal.loop-i-preserved
+loop-i-preserved c = ⊎_elim
+    (λ w. other_put c.loop-i.invariant c.loop-i-test.true c.requires.0 _ _ _ (w.5 ∙ w.2.ensures) w.6 w.7 w.0.taken)
+    (λ w. same_put c.loop-i.invariant c.loop-i-test.true c.requires.0 w.0.left _ _ _ w.1 w.2 w.3)
+    c.if-old-new.branch
+
+pub returns : goal.returns
+returns c = let q = put_all c.loop-i.invariant c.loop-i-test.false c.requires.0 in (q.0, (q.1, q.2))

@@ -1,0 +1,17 @@
+use mathlib.Core.Path.{sym, ◌∙◌}
+use Rattle.panelrue_c.specs.HostLogs.{log_number, log_words}
+use borrow.Author.Rules.{rules}
+use Rattle.panelrue_c.proofs.logs.panelrue_run_logged.Goals as goal
+
+pub pack-requires : goal.pack-requires
+pack-requires c = rw c.in-Refused.is at c.run_logged.ensures.1.0
+
+pub returns-in-Stopped : goal.returns-in-Stopped
+unfolding log_number
+returns-in-Stopped c = let e = sym c.run_logged.ensures.0 ∙ c.in-Stopped.is in
+    (rw e, (c.run_logged.ensures.1.1.0, (c.run_logged.ensures.1.1.1, rw e c.tell_log.ensures)))
+
+pub returns-in-Refused : goal.returns-in-Refused
+unfolding log_number log_words
+returns-in-Refused c = let e = sym c.run_logged.ensures.0 ∙ c.in-Refused.is in
+    (rw e c.pack.ensures, (c.run_logged.ensures.1.1.0, (c.run_logged.ensures.1.1.1, rw e)))

@@ -1,0 +1,5 @@
+use borrow.Author.Rules.{rules}
+use Rattle.release_desk.proofs.serve.Goals as goal
+
+pub slice_bounds-serve_content-end : goal.slice_bounds-serve_content-end
+slice_bounds-serve_content-end c = rw c.in-Bytes.is at c.content_of-content.ensures

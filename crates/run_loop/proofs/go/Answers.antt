@@ -1,0 +1,91 @@
+use Rattle.run_loop.proofs.Ending.{ends_spent}
+use mathlib.Core.Path.{◌≡◌, refl, ◌∙◌}
+use mathlib.Core.List.{List, ◌++◌}
+use Prim.Native.Nat.{ℕ, ◌+◌, ◌-◌, ◌≤◌}
+use native.Mathlib.Omega.{arith}
+use borrow.Author.Rules.{rules}
+use lib.ListN.{length}
+use Rattle.spec_machine.specs.Values.{Value}
+use Rattle.spec_machine.specs.Machine as machine
+use Rattle.spec_machine.specs.Machine.{Frame, Saved, RunEnv, running}
+use Rattle.spec_machine.specs.Fit.{Fit}
+use Rattle.spec_machine.specs.File.{program_of}
+use Rattle.spec_image.specs.Layout.{env_words}
+use Rattle.spec_image.specs.Core.{core}
+use Rattle.state_words.specs.Meaning.{control_is}
+use Rattle.run_rules.specs.StepsTo.{Describes}
+use Rattle.run_loop.proofs.Reaching.{Reached, reached, reached_at_fit, reached_on, reached_full, reached_returned, reached_arith, reached_abort, reached_bounds}
+use Rattle.run_loop.proofs.go.Goals as goal
+
+pub loop-steps-init : goal.loop-steps-init
+loop-steps-init c = (c.requires.2, refl, λ α f η K A R e t q. reached _ _ _ _ _ _ R α f η K A e t q)
+
+pub step-requires : goal.step-requires
+step-requires c = let l = c.loop-steps in
+    let z = c.requires.0 in
+    let r = l.invariant.2 z.environment c.args.head.function z.variables z.frames z.callers z.rest z.held z.describes z.fit in
+    let q = reached_at_fit _ c.args.starts.now _ _ _ _ _ _ _ _ z.passed z.starts r in
+    (q, omega (arith, l.invariant.1, c.requires.1))
+
+pub loop-steps-preserved : goal.loop-steps-preserved
+loop-steps-preserved c = (
+  omega (arith, c.loop-steps-test.true),
+  c.step.auto.m ∙ c.loop-steps.invariant.1,
+  λ α f η K A R e t fit.
+      let l = c.loop-steps in
+      let z = c.requires.0 in
+      let r = l.invariant.2 α f η K A R e t fit in
+      let d = c.step.ensures r.environment r.function r.variables r.frames r.callers (λ β. env_words β ++ R) r.held r.describes r.fit in
+      reached_on _ (λ i. (c.shared_slice_known-1.given i).fits) z.passed _ _ _ _ _ _ _ _ R c.loop-steps-test.true r _ _ (rw c.in-Went.is at d),
+)
+
+pub stop-requires : goal.stop-requires
+stop-requires c = let l = c.loop-steps in
+    let z = c.requires.0 in
+    let r = l.invariant.2 z.environment c.args.head.function z.variables z.frames z.callers z.rest z.held z.describes z.fit in
+    let w = reached_bounds _ _ _ _ _ _ _ _ _ r (omega (arith, l.invariant.1, c.requires.1)) in
+    (omega (arith, c.step.auto.m, l.invariant.1, c.requires.1), w.1, w.2)
+
+pub returns-in-Full : goal.returns-in-Full
+returns-in-Full c α f η K A R e t fit = let l = c.loop-steps in
+    let z = c.requires.0 in
+    let r = l.invariant.2 α f η K A R e t fit in
+    let d = c.step.ensures r.environment r.function r.variables r.frames r.callers (λ β. env_words β ++ R) r.held r.describes r.fit in
+    let o = c.stop.ensures in
+    rw (o.0, o.1) (reached_full _ (λ i. (c.shared_slice_known-1.given i).fits) z.passed _ _ _ _ _ _ _ _ R c.loop-steps-test.true r (rw c.in-Full.is at d) _ (λ i. o.2 c.args.file.now r.environment r.function r.variables r.frames r.callers R (i ∙ r.held) r.describes))
+
+pub returns-in-Returned : goal.returns-in-Returned
+returns-in-Returned c α f η K A R e t fit = let l = c.loop-steps in
+    let z = c.requires.0 in
+    let r = l.invariant.2 α f η K A R e t fit in
+    let d = c.step.ensures r.environment r.function r.variables r.frames r.callers (λ β. env_words β ++ R) r.held r.describes r.fit in
+    reached_returned _ (λ i. (c.shared_slice_known-1.given i).fits) z.passed _ _ _ _ _ _ _ _ R c.loop-steps-test.true r _ (rw c.in-Returned.is at d) _ _ _ (λ β n i. c.finish.ensures _ β R n i)
+
+pub returns-in-Arith : goal.returns-in-Arith
+returns-in-Arith c α f η K A R e t fit = let l = c.loop-steps in
+    let z = c.requires.0 in
+    let r = l.invariant.2 α f η K A R e t fit in
+    let d = c.step.ensures r.environment r.function r.variables r.frames r.callers (λ β. env_words β ++ R) r.held r.describes r.fit in
+    let o = c.fail.ensures in
+    rw (o.0, o.1) (reached_arith _ (λ i. (c.shared_slice_known-1.given i).fits) z.passed _ _ _ _ _ _ _ _ R c.loop-steps-test.true r (rw c.in-Arith.is at d) _ (λ i. o.2 machine.arith R refl i))
+
+pub returns-in-Abort : goal.returns-in-Abort
+returns-in-Abort c α f η K A R e t fit = let l = c.loop-steps in
+    let z = c.requires.0 in
+    let r = l.invariant.2 α f η K A R e t fit in
+    let d = c.step.ensures r.environment r.function r.variables r.frames r.callers (λ β. env_words β ++ R) r.held r.describes r.fit in
+    let o = c.fail-in-Abort.ensures in
+    rw (o.0, o.1) (reached_abort _ (λ i. (c.shared_slice_known-1.given i).fits) z.passed _ _ _ _ _ _ _ _ R c.loop-steps-test.true r (rw c.in-Abort.is at d) _ (λ i. o.2 machine.abort R refl i))
+
+pub stop-requires-2 : goal.stop-requires-2
+stop-requires-2 c = let l = c.loop-steps in
+    let z = c.requires.0 in
+    let r = l.invariant.2 z.environment c.args.head.function z.variables z.frames z.callers z.rest z.held z.describes z.fit in
+    reached_bounds _ _ _ _ _ _ _ _ _ r (omega (arith, l.invariant.1, c.requires.1))
+
+pub returns : goal.returns
+returns c α f η K A R e t fit = let l = c.loop-steps in
+    let r = l.invariant.2 α f η K A R e t fit in
+    let o = c.stop-2.ensures in
+    rw (o.0, o.1) (r.then _ _ _ (ends_spent (program_of c.args.file.now) c.args.allowed _ _ _ _ _ _ _ _ R c.loop-steps-test.false
+    (o.2 c.args.file.now r.environment r.function r.variables r.frames r.callers R r.held r.describes)))

@@ -1,0 +1,9 @@
+use mathlib.Core.Path.{sym, ◌∙◌}
+use native.Mathlib.Omega.{arith}
+use Rattle.words.proofs.Blocks.{zeroed}
+use borrow.Author.Rules.{rules}
+use Rattle.run_rules.proofs.calling.clear.Goals as goal
+
+pub returns : goal.returns
+returns c z w = let p = c.requires in
+    c.zero_at.ensures ∙ rw (p.0 ∙ sym w) (zeroed _ z (omega arith))

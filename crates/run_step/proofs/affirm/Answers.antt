@@ -1,0 +1,22 @@
+use mathlib.Core.Path.{refl}
+use mathlib.Core.List.{◌∷◌}
+use native.Mathlib.Omega.{arith}
+use Rattle.run_rules.specs.StepsTo.{StepsTo}
+use Rattle.spec_image.specs.Decode.{ref_of}
+use Rattle.state_words.specs.Meaning.{value_is, control_is}
+use Rattle.run_rules.proofs.Steps.{counted}
+use Rattle.run_step.proofs.Sorts.{truth_only}
+use borrow.Author.Rules.{rules}
+use Rattle.run_step.proofs.affirm.Goals as goal
+
+pub unreachable-requires : goal.unreachable-requires
+unreachable-requires c = truth_only c.args.v c.requires.2 c.in_default.keys2
+
+pub returns-then-truth : goal.returns-then-truth
+unfolding value_is control_is ref_of
+returns-then-truth c s p q α f η fr K A R e t = rw (c.in-Truth.is, c.if-truth.true) (c.take_off.ensures s α f η fr K A R e t)
+
+pub returns-else-truth : goal.returns-else-truth
+unfolding value_is StepsTo
+returns-else-truth c s p q α f η fr K A R e t = rw (c.in-Truth.is, c.if-truth.false, c.raise.ensures.0)
+    (refl, c.raise.ensures.1)

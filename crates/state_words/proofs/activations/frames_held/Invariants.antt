@@ -1,0 +1,13 @@
+use mathlib.Core.Path.{◌≡◌, refl, ap, ◌∙◌}
+use Prim.Native.Nat.{◌*◌, ◌-◌, ◌≤◌}
+use native.Mathlib.Omega.{arith}
+use Rattle.spec_image.specs.Decode.{held_in}
+use Rattle.state_words.proofs.Totals.{total_next}
+use borrow.Author.Rules.{rules}
+use Rattle.state_words.proofs.activations.frames_held.Given as goal
+
+abbrev pub invariant-loop-a : goal.invariant-loop-a
+invariant-loop-a l = (l.a ≤ l.n) × (l.sum ≡ held_in l.m l.a) × (l.sum ≤ l.a * 4294967295)
+
+abbrev pub decreases-loop-a : goal.decreases-loop-a
+decreases-loop-a l = l.n - l.a
