@@ -1,6 +1,7 @@
 use Rattle.arith.specs.Operators.{and_of, or_of, xor_of, lt_of, le_of, gt_of, ge_of, eq_of, ne_of, results, applied}
 use Rattle.arith.proofs.Numbers.{no_operator}
 use Rattle.std.proofs.Common.{rules}
+use native.Mathlib.Omega.{arith}
 use Rattle.arith.proofs.apply.Goals as goal
 
 pub returns-in-0 : goal.returns-in-0
@@ -68,4 +69,4 @@ unfolding applied results ne_of
 returns-in-15 c = rw c.in-15.is
 
 pub returns-in_default : goal.returns-in_default
-returns-in_default c = no_operator _ _ _ _ c.in_default.rest
+returns-in_default c = no_operator _ _ _ _ (omega arith)

@@ -7,7 +7,7 @@ pub insert-requires : goal.insert-requires
 insert-requires c = rw c.b_at.ensures (c.requires.1 (omega arith))
 
 pub returns-then-kind_at-eq9 : goal.returns-then-kind_at-eq9
-returns-then-kind_at-eq9 c = ((inserted _ _ _ _ c.insert.ensures c.b_at.ensures).0, λ e. (inserted _ _ _ _ c.insert.ensures c.b_at.ensures).1)
+returns-then-kind_at-eq9 c = record { grown = (inserted _ _ _ _ c.insert.ensures c.b_at.ensures).0; own = λ e. (inserted _ _ _ _ c.insert.ensures c.b_at.ensures).1 }
 
 pub returns-else-kind_at-eq9 : goal.returns-else-kind_at-eq9
-returns-else-kind_at-eq9 c = (λ x l. l, λ e. absurd (omega arith))
+returns-else-kind_at-eq9 c = record { grown = λ x l. l; own = λ e. absurd (omega arith) }

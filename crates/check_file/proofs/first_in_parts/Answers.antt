@@ -14,49 +14,49 @@ use Prim.Native.Nat.{◌-◌, ◌≤◌}
 use Rattle.check_file.proofs.first_in_parts.Goals as goal
 
 pub function_count-functions-requires : goal.function_count-functions-requires
-function_count-functions-requires c = omega (arith, c.requires.0.0.heads)
+function_count-functions-requires c = omega (arith, c.requires.laid.0.heads)
 
 pub loop-f-init : goal.loop-f-init
 loop-f-init c = (refl, search rules, rw (start_first, c.function_count-functions.ensures.0), rw sub-zero)
 
 pub count_of-n-requires : goal.count_of-n-requires
-count_of-n-requires c = omega (arith, c.requires.0.0.heads, c.function_count-functions.ensures.0)
+count_of-n-requires c = omega (arith, c.requires.laid.0.heads, c.function_count-functions.ensures.0)
 
 pub overflow_mul-a : goal.overflow_mul-a
-overflow_mul-a c = omega (arith, part_room c.args.file.now c.requires.0.0 c.function_count-functions.ensures.0 c.loop-f-test.true c.loop-f.invariant.2 c.count_of-n.ensures.0)
+overflow_mul-a c = omega (arith, part_room c.args.file.now c.requires.laid.0 c.function_count-functions.ensures.0 c.loop-f-test.true c.loop-f.invariant.2 c.count_of-n.ensures.0)
 
 pub overflow_add-e : goal.overflow_add-e
-overflow_add-e c = omega (arith, part_room c.args.file.now c.requires.0.0 c.function_count-functions.ensures.0 c.loop-f-test.true c.loop-f.invariant.2 c.count_of-n.ensures.0)
+overflow_add-e c = omega (arith, part_room c.args.file.now c.requires.laid.0 c.function_count-functions.ensures.0 c.loop-f-test.true c.loop-f.invariant.2 c.count_of-n.ensures.0)
 
 pub overflow_mul-e : goal.overflow_mul-e
-overflow_mul-e c = omega (arith, part_room c.args.file.now c.requires.0.0 c.function_count-functions.ensures.0 c.loop-f-test.true c.loop-f.invariant.2 c.count_of-n.ensures.0)
+overflow_mul-e c = omega (arith, part_room c.args.file.now c.requires.laid.0 c.function_count-functions.ensures.0 c.loop-f-test.true c.loop-f.invariant.2 c.count_of-n.ensures.0)
 
 pub slice_bounds-answer_in-end : goal.slice_bounds-answer_in-end
-slice_bounds-answer_in-end c = part_room c.args.file.now c.requires.0.0 c.function_count-functions.ensures.0 c.loop-f-test.true c.loop-f.invariant.2 c.count_of-n.ensures.0
+slice_bounds-answer_in-end c = part_room c.args.file.now c.requires.laid.0 c.function_count-functions.ensures.0 c.loop-f-test.true c.loop-f.invariant.2 c.count_of-n.ensures.0
 
 pub answer_in-requires : goal.answer_in-requires
-answer_in-requires c = asks c.args.file.now c.args.q c.requires.0.0 c.function_count-functions.ensures.0 c.loop-f-test.true c.loop-f.invariant.2 c.count_of-n.ensures.0 c.requires.0.2 c.requires.1.0 (λ z. rw c.loop-f.invariant.0 (c.requires.1.1 z))
+answer_in-requires c = asks c.args.file.now c.args.q c.requires.laid.0 c.function_count-functions.ensures.0 c.loop-f-test.true c.loop-f.invariant.2 c.count_of-n.ensures.0 c.requires.laid.2 c.requires.known.0 (λ z. rw c.loop-f.invariant.0 (c.requires.known.1 z))
 
 pub origin-requires : goal.origin-requires
-origin-requires c = omega (arith, c.requires.0.0.few, c.function_count-functions.ensures.0)
+origin-requires c = omega (arith, c.requires.laid.0.few, c.function_count-functions.ensures.0)
 
 pub shift_by-requires : goal.shift_by-requires
-shift_by-requires c = λ i x e. omega (arith, (placed c.args.file.now c.args.q c.requires.0.0 c.function_count-functions.ensures.0 c.loop-f-test.true c.loop-f.invariant.2 c.count_of-n.ensures.0 _ _ c.requires.0.1 c.answer_in.ensures.1 c.origin.ensures i x e).0)
+shift_by-requires c = λ i x e. omega (arith, (placed c.args.file.now c.args.q c.requires.laid.0 c.function_count-functions.ensures.0 c.loop-f-test.true c.loop-f.invariant.2 c.count_of-n.ensures.0 _ _ c.requires.laid.1 c.answer_in.ensures.small c.origin.ensures i x e).0)
 
 pub shape_of-table-in-At : goal.shape_of-table-in-At
 shape_of-table-in-At c = c.answer_in.auto.table ∙ c.loop-f.invariant.0
 
 pub returns-in-At : goal.returns-in-At
-returns-in-At c = (sym (c.loop-f.invariant.3 ∙ scan_found _ _ _ _ _ c.loop-f-test.true (found c.args.file.now c.args.q c.requires.0.0 c.function_count-functions.ensures.0 c.loop-f-test.true c.loop-f.invariant.2 c.count_of-n.ensures.0 _ _ c.answer_in.ensures.0 c.origin.ensures ∙ sym c.shift_by.ensures ∙ c.in-At.is)) ∙ rw c.function_count-functions.ensures.0, λ i x e. shift_placed _ i x _ (placed c.args.file.now c.args.q c.requires.0.0 c.function_count-functions.ensures.0 c.loop-f-test.true c.loop-f.invariant.2 c.count_of-n.ensures.0 _ _ c.requires.0.1 c.answer_in.ensures.1 c.origin.ensures) (sym c.shift_by.ensures ∙ c.in-At.is ∙ e))
+returns-in-At c = record { exact = sym (c.loop-f.invariant.3 ∙ scan_found _ _ _ _ _ c.loop-f-test.true (found c.args.file.now c.args.q c.requires.laid.0 c.function_count-functions.ensures.0 c.loop-f-test.true c.loop-f.invariant.2 c.count_of-n.ensures.0 _ _ c.answer_in.ensures.exact c.origin.ensures ∙ sym c.shift_by.ensures ∙ c.in-At.is)) ∙ rw c.function_count-functions.ensures.0; small = λ i x e. shift_placed _ i x _ (placed c.args.file.now c.args.q c.requires.laid.0 c.function_count-functions.ensures.0 c.loop-f-test.true c.loop-f.invariant.2 c.count_of-n.ensures.0 _ _ c.requires.laid.1 c.answer_in.ensures.small c.origin.ensures) (sym c.shift_by.ensures ∙ c.in-At.is ∙ e) }
 
 pub overflow_add-start-in-loop-f : goal.overflow_add-start-in-loop-f
-overflow_add-start-in-loop-f c = omega (arith, part_room c.args.file.now c.requires.0.0 c.function_count-functions.ensures.0 c.loop-f-test.true c.loop-f.invariant.2 c.count_of-n.ensures.0)
+overflow_add-start-in-loop-f c = omega (arith, part_room c.args.file.now c.requires.laid.0 c.function_count-functions.ensures.0 c.loop-f-test.true c.loop-f.invariant.2 c.count_of-n.ensures.0)
 
 pub loop-f-preserved : goal.loop-f-preserved
-loop-f-preserved c = (c.answer_in.auto.table ∙ c.loop-f.invariant.0, search rules, start_next c.args.file.now c.loop-f.f c.loop-f.invariant.2 c.count_of-n.ensures.0, c.loop-f.invariant.3 ∙ scan_on _ _ _ c.loop-f-test.true (found c.args.file.now c.args.q c.requires.0.0 c.function_count-functions.ensures.0 c.loop-f-test.true c.loop-f.invariant.2 c.count_of-n.ensures.0 _ _ c.answer_in.ensures.0 c.origin.ensures ∙ sym c.shift_by.ensures ∙ c.in_default.is))
+loop-f-preserved c = (c.answer_in.auto.table ∙ c.loop-f.invariant.0, search rules, start_next c.args.file.now c.loop-f.f c.loop-f.invariant.2 c.count_of-n.ensures.0, c.loop-f.invariant.3 ∙ scan_on _ _ _ c.loop-f-test.true (found c.args.file.now c.args.q c.requires.laid.0 c.function_count-functions.ensures.0 c.loop-f-test.true c.loop-f.invariant.2 c.count_of-n.ensures.0 _ _ c.answer_in.ensures.exact c.origin.ensures ∙ sym c.shift_by.ensures ∙ c.in_default.is))
 
 pub shape_of-table : goal.shape_of-table
 shape_of-table c = c.loop-f.invariant.0
 
 pub returns : goal.returns
-returns c = (sym (c.loop-f.invariant.3 ∙ scan-end _ _ _ (omega arith)) ∙ rw c.function_count-functions.ensures.0, λ i x e. let z : ◌≡◌ {A = ℕ} 0 1 = cc in absurd (omega arith))
+returns c = record { exact = sym (c.loop-f.invariant.3 ∙ scan-end _ _ _ (omega arith)) ∙ rw c.function_count-functions.ensures.0; small = λ i x e. let z : ◌≡◌ {A = ℕ} 0 1 = cc in absurd (omega arith) }

@@ -8,4 +8,4 @@ use borrow.Author.Rules.{rules}
 use Rattle.check_flow.proofs.first_lacking.Goals as goal
 
 pub returns : goal.returns
-returns c = let e : c.first_empty.result ≡ lacks (statement_at c.args.part.now (c.args.n - 1)) (below (params_of c.args.file.now c.args.f)) = c.first_empty.ensures ∙ rw (c.below.ensures, c.wide.ensures.0, c.params_of.ensures) in (e, lacking_within _ c.requires.1.0.nodes c.requires.1.1 e)
+returns c = let e : c.first_empty.result ≡ lacks (statement_at c.args.part.now (c.args.n - 1)) (below (params_of c.args.file.now c.args.f)) = c.first_empty.ensures ∙ rw (c.below.ensures, c.wide.ensures.0, c.params_of.ensures) in record { exact = e; within = lacking_within _ c.requires.part.0.nodes c.requires.part.1 e }

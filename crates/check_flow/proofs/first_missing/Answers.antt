@@ -10,11 +10,11 @@ use Rattle.check_flow.proofs.Expressions.{rest_all, rest_found, rest_on, rest_no
 use Rattle.check_flow.proofs.first_missing.Goals as goal
 
 pub loop-i-init : goal.loop-i-init
-loop-i-init c = (search rules, rest_all _ _ _ _ (c.requires.1.sized _ (search rules)) (c.minus-i.ensures ∙ rw c.size_at.ensures.0))
+loop-i-init c = (search rules, rest_all _ _ _ _ (c.requires.known.sized _ (search rules)) (c.minus-i.ensures ∙ rw c.size_at.ensures.0))
 
 pub reads_empty-requires : goal.reads_empty-requires
 unfolding names_variable uses_variable
-reads_empty-requires c = (search rules, λ e. named 2 c.requires.1 (search rules) e refl)
+reads_empty-requires c = (search rules, λ e. named 2 c.requires.known (search rules) e refl)
 
 pub returns-then-reads_empty : goal.returns-then-reads_empty
 returns-then-reads_empty c = sym (rest_found _ _ _ _ _ (search rules) c.reads_empty.ensures c.if-reads_empty.true) ∙ c.loop-i.invariant.1

@@ -6,16 +6,16 @@ use borrow.Author.Rules.{rules}
 use Rattle.check_pass.proofs.part_floor.Goals as goal
 
 pub survey_part-asked-requires : goal.survey_part-asked-requires
-survey_part-asked-requires c = (c.requires.0, (c.requires.1.0.0, noted_none _))
+survey_part-asked-requires c = record { laid = c.requires.laid; inside = c.requires.inside.0; empty = noted_none _ }
 
 pub returns-then-asked-lt8 : goal.returns-then-asked-lt8
-returns-then-asked-lt8 c = ((λ q h k. absurd (omega arith), omega arith, omega arith), (refl, refl, refl))
+returns-then-asked-lt8 c = record { clear = (λ q h k. absurd (omega arith), omega arith, omega arith); room = (refl, refl, refl) }
 
 pub below-begun-requires : goal.below-begun-requires
-below-begun-requires c = omega (arith, c.wide.ensures.0, c.params_of.ensures, c.requires.0.0.params _ c.requires.0.1)
+below-begun-requires c = omega (arith, c.wide.ensures.0, c.params_of.ensures, c.requires.laid.0.params _ c.requires.laid.1)
 
 pub floor-requires : goal.floor-requires
-floor-requires c = ((part_known _ _ _ _ c.requires.0.0 c.requires.0.1 c.requires.1.0.0 (c.survey_part-asked.ensures (omega (arith, c.if-asked-lt8.false))), c.requires.1.0.1, c.requires.1.0.2), c.requires.1.1)
+floor-requires c = record { inside = (part_known _ _ _ _ c.requires.laid.0 c.requires.laid.1 c.requires.inside.0 (c.survey_part-asked.ensures (omega (arith, c.if-asked-lt8.false))), c.requires.inside.1, c.requires.inside.2); room = c.requires.room }
 
 pub returns : goal.returns
-returns c = ((clear _ _ _ _ (c.below-begun.ensures ∙ rw (c.wide.ensures.0, c.params_of.ensures)) (c.survey_part-asked.ensures (omega (arith, c.if-asked-lt8.false))) c.floor.ensures.0.0 c.lower.ensures.0 c.lower.ensures.1 (omega (arith, c.lower.ensures.0, c.floor.ensures.0.2)), c.lower.ensures.2 (omega (arith, c.floor.ensures.0.1)) (omega (arith, c.if-asked-lt8.false)), omega (arith, c.lower.ensures.0, c.floor.ensures.0.2)), c.floor.ensures.1)
+returns c = record { clear = (clear _ _ _ _ (c.below-begun.ensures ∙ rw (c.wide.ensures.0, c.params_of.ensures)) (c.survey_part-asked.ensures (omega (arith, c.if-asked-lt8.false))) c.floor.ensures.shown.0 c.lower.ensures.0 c.lower.ensures.1 (omega (arith, c.lower.ensures.0, c.floor.ensures.shown.2)), c.lower.ensures.2 (omega (arith, c.floor.ensures.shown.1)) (omega (arith, c.if-asked-lt8.false)), omega (arith, c.lower.ensures.0, c.floor.ensures.shown.2)); room = c.floor.ensures.room }

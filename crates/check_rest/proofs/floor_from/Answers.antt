@@ -7,7 +7,7 @@ use Rattle.check_rest.proofs.Sounds.{sound, sound_next}
 use Rattle.check_rest.proofs.floor_from.Goals as goal
 
 pub loop-i-init : goal.loop-i-init
-loop-i-init c = (c.requires.0.2, c.requires.1.1, lit≤ tt, lit≤ tt)
+loop-i-init c = (c.requires.inside.2, c.requires.before, lit≤ tt, lit≤ tt)
 
 pub returns-then-least-lt9 : goal.returns-then-least-lt9
 returns-then-least-lt9 c = (λ k l. sound _ _ _ _ k 8 (λ z. absurd (omega arith)) (λ z. absurd (omega arith)) (λ z. absurd (omega arith)), lit≤ tt, lit≤ tt)

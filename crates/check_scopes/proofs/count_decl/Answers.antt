@@ -4,19 +4,19 @@ use Rattle.check_scopes.proofs.Decls.{counts_other, counts_again, counts_new}
 use Rattle.check_scopes.proofs.count_decl.Goals as goal
 
 pub returns-then-kind_at-ne9 : goal.returns-then-kind_at-ne9
-returns-then-kind_at-ne9 c = counts_other _ _ _ c.requires.1.1 (λ e. c.if-kind_at-ne9.true (c.kind_at.ensures ∙ e))
+returns-then-kind_at-ne9 c = counts_other _ _ _ c.requires.counted (λ e. c.if-kind_at-ne9.true (c.kind_at.ensures ∙ e))
 
 pub contains-requires : goal.contains-requires
-contains-requires c = rw c.b_at-x.ensures (c.requires.1.0 (sym c.kind_at.ensures ∙ c.if-kind_at-ne9.false))
+contains-requires c = rw c.b_at-x.ensures (c.requires.narrow (sym c.kind_at.ensures ∙ c.if-kind_at-ne9.false))
 
 pub insert-requires : goal.insert-requires
-insert-requires c = rw c.b_at-x.ensures (c.requires.1.0 (sym c.kind_at.ensures ∙ c.if-kind_at-ne9.false))
+insert-requires c = rw c.b_at-x.ensures (c.requires.narrow (sym c.kind_at.ensures ∙ c.if-kind_at-ne9.false))
 
 pub insert-requires-else-contains : goal.insert-requires-else-contains
-insert-requires-else-contains c = rw c.b_at-x.ensures (c.requires.1.0 (sym c.kind_at.ensures ∙ c.if-kind_at-ne9.false))
+insert-requires-else-contains c = rw c.b_at-x.ensures (c.requires.narrow (sym c.kind_at.ensures ∙ c.if-kind_at-ne9.false))
 
 pub returns-then-contains : goal.returns-then-contains
-returns-then-contains c = counts_again _ _ _ _ c.requires.1.1 (sym c.kind_at.ensures ∙ c.if-kind_at-ne9.false) c.b_at-x.ensures _ (sym c.contains.ensures ∙ c.if-contains.true) refl c.insert.ensures
+returns-then-contains c = counts_again _ _ _ _ c.requires.counted (sym c.kind_at.ensures ∙ c.if-kind_at-ne9.false) c.b_at-x.ensures _ (sym c.contains.ensures ∙ c.if-contains.true) refl c.insert.ensures
 
 pub returns-else-contains : goal.returns-else-contains
-returns-else-contains c = counts_new _ _ _ _ c.requires.1.1 (sym c.kind_at.ensures ∙ c.if-kind_at-ne9.false) c.b_at-x.ensures _ (sym c.contains.ensures ∙ c.if-contains.false) c.insert-else-contains.ensures refl
+returns-else-contains c = counts_new _ _ _ _ c.requires.counted (sym c.kind_at.ensures ∙ c.if-kind_at-ne9.false) c.b_at-x.ensures _ (sym c.contains.ensures ∙ c.if-contains.false) c.insert-else-contains.ensures refl

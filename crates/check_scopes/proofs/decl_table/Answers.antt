@@ -9,7 +9,7 @@ pub loop-i-init : goal.loop-i-init
 loop-i-init c = (search rules, noted_none _)
 
 pub note_decl-requires : goal.note_decl-requires
-note_decl-requires c = (search rules, (decl_known _ _ _ c.requires.1 (search rules), c.loop-i.invariant.1))
+note_decl-requires c = record { inside = search rules; narrow = decl_known _ _ _ c.requires.named (search rules); told = c.loop-i.invariant.1 }
 
 pub loop-i-preserved : goal.loop-i-preserved
 loop-i-preserved c = (search rules, c.note_decl.ensures)

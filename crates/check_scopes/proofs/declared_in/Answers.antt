@@ -9,7 +9,7 @@ pub loop-i-init : goal.loop-i-init
 loop-i-init c = (search rules, counts_none _ _ c.empty.ensures c.empty-2.ensures)
 
 pub count_decl-d-requires : goal.count_decl-d-requires
-count_decl-d-requires c = (search rules, (decl_known _ _ _ c.requires.1 (search rules), c.loop-i.invariant.1))
+count_decl-d-requires c = record { inside = search rules; narrow = decl_known _ _ _ c.requires.named (search rules); counted = c.loop-i.invariant.1 }
 
 pub loop-i-preserved : goal.loop-i-preserved
 loop-i-preserved c = (search rules, c.count_decl-d.ensures)

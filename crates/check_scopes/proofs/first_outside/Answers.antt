@@ -10,7 +10,7 @@ pub loop-i-init : goal.loop-i-init
 loop-i-init c = (search rules, below_none _)
 
 pub is_outside-requires : goal.is_outside-requires
-is_outside-requires c = (search rules, (search rules, (c.requires.1.1.variable, c.decl_table-decls.ensures)))
+is_outside-requires c = record { laid = search rules; inside = search rules; named = c.requires.known.variable; told = c.decl_table-decls.ensures }
 
 pub returns-then-is_outside : goal.returns-then-is_outside
 returns-then-is_outside c = first-at _ _ _ (search rules) c.loop-i.invariant.1 (sym c.is_outside.ensures ∙ c.if-is_outside.true)

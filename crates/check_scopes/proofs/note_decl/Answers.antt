@@ -4,10 +4,10 @@ use borrow.Author.Rules.{rules}
 use Rattle.check_scopes.proofs.note_decl.Goals as goal
 
 pub bounds-table-x : goal.bounds-table-x
-bounds-table-x c = rw c.b_at-x.ensures (c.requires.1.0 (sym c.kind_at.ensures ∙ c.if-kind_at-eq9.true))
+bounds-table-x c = rw c.b_at-x.ensures (c.requires.narrow (sym c.kind_at.ensures ∙ c.if-kind_at-eq9.true))
 
 pub returns-then-kind_at-eq9 : goal.returns-then-kind_at-eq9
-returns-then-kind_at-eq9 c = noted_more _ c.args.table.now _ _ c.requires.1.1 (sym c.kind_at.ensures ∙ c.if-kind_at-eq9.true) c.b_at-x.ensures (rw c.b_at-x.ensures (c.requires.1.0 (sym c.kind_at.ensures ∙ c.if-kind_at-eq9.true)))
+returns-then-kind_at-eq9 c = noted_more _ c.args.table.now _ _ c.requires.told (sym c.kind_at.ensures ∙ c.if-kind_at-eq9.true) c.b_at-x.ensures (rw c.b_at-x.ensures (c.requires.narrow (sym c.kind_at.ensures ∙ c.if-kind_at-eq9.true)))
 
 pub returns-else-kind_at-eq9 : goal.returns-else-kind_at-eq9
-returns-else-kind_at-eq9 c = noted_other _ c.args.table.now _ c.requires.1.1 (λ e. c.if-kind_at-eq9.false (c.kind_at.ensures ∙ e))
+returns-else-kind_at-eq9 c = noted_other _ c.args.table.now _ c.requires.told (λ e. c.if-kind_at-eq9.false (c.kind_at.ensures ∙ e))

@@ -1,5 +1,6 @@
 use Rattle.spec_language.specs.Sorts.{wants_expression}
 use Rattle.check_sorts.proofs.Sorts.{wants_rest}
+use native.Mathlib.Omega.{arith}
 use Rattle.check_sorts.proofs.wants_expression.Goals as goal
 
 pub returns-in-7 : goal.returns-in-7
@@ -19,4 +20,4 @@ unfolding wants_expression
 returns-in-11 c = rw c.in-11.is
 
 pub returns-in_default : goal.returns-in_default
-returns-in_default c = wants_rest _ _ c.in_default.rest.0.0.0.1 c.in_default.rest.0.0.1 c.in_default.rest.0.1 c.in_default.rest.1
+returns-in_default c = wants_rest _ _ (omega arith) (omega arith) (omega arith) (omega arith)

@@ -6,16 +6,16 @@ use borrow.Author.Rules.{rules}
 use Rattle.check_summary.proofs.add_row.Goals as goal
 
 pub kind_at-kind-requires : goal.kind_at-kind-requires
-kind_at-kind-requires c = (read_asks c.requires.0.0 c.requires.0.1).0
+kind_at-kind-requires c = (read_asks c.requires.part.0 c.requires.part.1).0
 
 pub expression_needs-needs-requires : goal.expression_needs-needs-requires
-expression_needs-needs-requires c = ((c.requires.0.0, c.requires.0.1, (rw (← c.kind_at-kind.ensures, ← c.is_expression.ensures) c.if-is_expression.true)), c.requires.1)
+expression_needs-needs-requires c = record { part = (c.requires.part.0, c.requires.part.1, (rw (← c.kind_at-kind.ensures, ← c.is_expression.ensures) c.if-is_expression.true)); table = c.requires.table }
 
 pub returns-then-is_expression : goal.returns-then-is_expression
-returns-then-is_expression c = more_reads _ _ _ _ _ _ _ _ (omega (arith, c.requires.0.1, c.requires.1.1)) c.put_row.ensures c.requires.1.0 (rw (← c.kind_at-kind.ensures, ← c.is_expression.ensures) c.if-is_expression.true) (rw c.plain-r.ensures.0.2 c.expression_needs-needs.ensures)
+returns-then-is_expression c = more_reads _ _ _ _ _ _ _ _ (omega (arith, c.requires.part.1, c.requires.table.1)) c.put_row.ensures c.requires.table.0 (rw (← c.kind_at-kind.ensures, ← c.is_expression.ensures) c.if-is_expression.true) (rw c.plain-r.ensures.kept.2 c.expression_needs-needs.ensures)
 
 pub statement_row-r-requires : goal.statement_row-r-requires
-statement_row-r-requires c = ((c.requires.0.0, c.requires.0.1, (rw (← c.kind_at-kind.ensures, ← c.is_expression.ensures) c.if-is_expression.false)), c.requires.1)
+statement_row-r-requires c = record { part = (c.requires.part.0, c.requires.part.1, (rw (← c.kind_at-kind.ensures, ← c.is_expression.ensures) c.if-is_expression.false)); table = c.requires.table }
 
 pub returns : goal.returns
-returns c = more_flows _ _ _ _ _ _ _ _ (omega (arith, c.requires.0.1, c.requires.1.1)) c.put_row-2.ensures c.requires.1.0 (rw (← c.kind_at-kind.ensures, ← c.is_expression.ensures) c.if-is_expression.false) c.statement_row-r.ensures c.flags_of-flags.ensures refl refl refl refl
+returns c = more_flows _ _ _ _ _ _ _ _ (omega (arith, c.requires.part.1, c.requires.table.1)) c.put_row-2.ensures c.requires.table.0 (rw (← c.kind_at-kind.ensures, ← c.is_expression.ensures) c.if-is_expression.false) c.statement_row-r.ensures c.flags_of-flags.ensures refl refl refl refl

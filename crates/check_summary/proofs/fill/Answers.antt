@@ -11,7 +11,7 @@ pub loop-i-init : goal.loop-i-init
 loop-i-init c = (omega arith, refl, none_filled _ _)
 
 pub add_row-requires : goal.add_row-requires
-add_row-requires c = ((c.requires.0, c.loop-i-test.true), (c.loop-i.invariant.2, rw c.loop-i.invariant.1 c.requires.1))
+add_row-requires c = record { part = (c.requires.0, c.loop-i-test.true); table = (c.loop-i.invariant.2, rw c.loop-i.invariant.1 c.requires.1) }
 
 pub loop-i-smaller : goal.loop-i-smaller
 loop-i-smaller c = omega (arith, c.loop-i-test.true)

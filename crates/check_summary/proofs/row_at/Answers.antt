@@ -5,4 +5,4 @@ use Rattle.check_summary.proofs.row_at.Goals as goal
 
 pub returns : goal.returns
 unfolding word_of fails_in returns_in
-returns c = ((refl, refl), (refl, refl, refl, refl))
+returns c = record { flags = (refl, refl); sets = (refl, refl, refl, refl) }

@@ -14,7 +14,7 @@ unfolding children
 loop-j-init c = (rw (c.minus-c.ensures, c.arity_at-j.ensures.0), search rules, search rules)
 
 pub want_of-want-requires : goal.want_of-want-requires
-want_of-want-requires c = (c.requires.0, ((search rules, search rules, argument_few _ _ _ _ c.requires.1.1.0.0 (search rules) c.loop-j.invariant.1 (search rules)), (c.requires.1.1.0, c.requires.1.1.1)))
+want_of-want-requires c = record { laid = c.requires.laid; inside = (search rules, search rules, argument_few _ _ _ _ c.requires.known.0 (search rules) c.loop-j.invariant.1 (search rules)); known = c.requires.known; told = c.requires.told }
 
 pub returns-then-not-is_suited : goal.returns-then-not-is_suited
 returns-then-not-is_suited c = agree_not _ _ _ _ _ _ _ _ c.loop-j.invariant.0 (search rules) c.want_of-want.ensures c.is_suited.ensures c.if-not-is_suited.true-raw

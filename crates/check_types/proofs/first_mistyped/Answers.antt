@@ -13,16 +13,16 @@ pub loop-i-init : goal.loop-i-init
 loop-i-init c = (search rules, below_none _, below_none _, refl)
 
 pub children_agree-requires : goal.children_agree-requires
-children_agree-requires c = (c.requires.0, ((search rules, search rules, search rules), (c.requires.1.1, c.decl_table-decls.ensures)))
+children_agree-requires c = record { laid = c.requires.laid; inside = (search rules, search rules, search rules); known = c.requires.known; told = c.decl_table-decls.ensures }
 
 pub returns-then-not-children_agree : goal.returns-then-not-children_agree
-returns-then-not-children_agree c = first-at _ _ _ (search rules) c.loop-i.invariant.1 (mistyped_is _ _ _ _ _ c.loop-i.types _ _ c.requires.1.1.0 (search rules) c.loop-i.invariant.2 c.children_agree.ensures c.if-not-children_agree.true-raw)
+returns-then-not-children_agree c = first-at _ _ _ (search rules) c.loop-i.invariant.1 (mistyped_is _ _ _ _ _ c.loop-i.types _ _ c.requires.known.0 (search rules) c.loop-i.invariant.2 c.children_agree.ensures c.if-not-children_agree.true-raw)
 
 pub type_of-requires : goal.type_of-requires
-type_of-requires c = (c.requires.0, (search rules, (c.requires.1.1, c.decl_table-decls.ensures)))
+type_of-requires c = record { laid = c.requires.laid; inside = search rules; known = c.requires.known; told = c.decl_table-decls.ensures }
 
 pub loop-i-preserved : goal.loop-i-preserved
-loop-i-preserved c = (search rules, below_more _ _ c.loop-i.invariant.1 (mistyped_is _ _ _ _ _ c.loop-i.types _ _ c.requires.1.1.0 (search rules) c.loop-i.invariant.2 c.children_agree.ensures c.if-not-children_agree.false-raw), typed_more _ _ _ _ _ c.loop-i.types _ c.loop-i.invariant.2 (search rules) c.type_of.ensures, search rules)
+loop-i-preserved c = (search rules, below_more _ _ c.loop-i.invariant.1 (mistyped_is _ _ _ _ _ c.loop-i.types _ _ c.requires.known.0 (search rules) c.loop-i.invariant.2 c.children_agree.ensures c.if-not-children_agree.false-raw), typed_more _ _ _ _ _ c.loop-i.types _ c.loop-i.invariant.2 (search rules) c.type_of.ensures, search rules)
 
 pub returns : goal.returns
 returns c = first-none _ _ _ (search rules) c.loop-i.invariant.1

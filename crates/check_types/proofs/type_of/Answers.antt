@@ -3,14 +3,15 @@ use borrow.Author.Rules.{rules}
 use Rattle.spec_language.specs.Types.{types_of, type_at}
 use Rattle.spec_language.specs.Scopes.{uses_variable}
 use Rattle.check_types.proofs.TypeTables.{type_rest, laid_at, var_known}
+use native.Mathlib.Omega.{arith}
 use Rattle.check_types.proofs.type_of.Goals as goal
 
 pub var_type-requires : goal.var_type-requires
 unfolding uses_variable
-var_type-requires c = (laid_at _ _ _ c.requires.0.0 c.requires.0.1 refl, (var_known _ _ _ _ 2 c.requires.1.0.0 c.requires.1.0.1 c.requires.1.1.0.0 (sym c.kind_at-kind.ensures ∙ c.in-2.is) refl c.b_at.ensures, c.requires.1.1.1))
+var_type-requires c = record { laid = laid_at _ _ _ c.requires.laid.0 c.requires.laid.1 refl; inside = var_known _ _ _ _ 2 c.requires.inside.0 c.requires.inside.1 c.requires.known.0 (sym c.kind_at-kind.ensures ∙ c.in-2.is) refl c.b_at.ensures; told = c.requires.told }
 
 pub result_of-requires : goal.result_of-requires
-result_of-requires c = (laid_at _ _ _ c.requires.0.0 (c.requires.1.1.0.1 _ c.requires.1.0.1 (sym c.kind_at-kind.ensures ∙ c.in-5.is)) c.b_at-callee.ensures).0
+result_of-requires c = (laid_at _ _ _ c.requires.laid.0 (c.requires.known.1 _ c.requires.inside.1 (sym c.kind_at-kind.ensures ∙ c.in-5.is)) c.b_at-callee.ensures).0
 
 pub returns-in-0 : goal.returns-in-0
 unfolding type_at types_of
@@ -41,4 +42,4 @@ unfolding type_at types_of
 returns-in-15 c = rw (sym c.kind_at-kind.ensures ∙ c.in-15.is)
 
 pub returns-in_default : goal.returns-in_default
-returns-in_default c = type_rest _ _ _ _ _ _ (sym c.kind_at-kind.ensures) c.in_default.rest.0.0.0.0.0.0.1 c.in_default.rest.0.0.0.0.0.1 c.in_default.rest.0.0.0.0.1 c.in_default.rest.0.0.0.1 c.in_default.rest.0.0.1 c.in_default.rest.0.1 c.in_default.rest.1
+returns-in_default c = type_rest _ _ _ _ _ _ (sym c.kind_at-kind.ensures) (omega arith) (omega arith) (omega arith) (omega arith) (omega arith) (omega arith) (omega arith)

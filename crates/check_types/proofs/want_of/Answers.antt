@@ -3,17 +3,18 @@ use borrow.Author.Rules.{rules}
 use Rattle.spec_language.specs.Types.{wants_of, want_at}
 use Rattle.spec_language.specs.Scopes.{uses_variable}
 use Rattle.check_types.proofs.TypeTables.{want_rest, laid_at, var_known}
+use native.Mathlib.Omega.{arith}
 use Rattle.check_types.proofs.want_of.Goals as goal
 
 pub param_type-requires : goal.param_type-requires
-param_type-requires c = ((laid_at _ _ _ c.requires.0.0 (c.requires.1.1.0.1 _ c.requires.1.0.1 (sym c.kind_at-kind.ensures ∙ c.in-5.is)) c.b_at-callee.ensures).0, c.requires.1.0.2 (sym c.kind_at-kind.ensures ∙ c.in-5.is))
+param_type-requires c = ((laid_at _ _ _ c.requires.laid.0 (c.requires.known.1 _ c.requires.inside.1 (sym c.kind_at-kind.ensures ∙ c.in-5.is)) c.b_at-callee.ensures).0, c.requires.inside.2 (sym c.kind_at-kind.ensures ∙ c.in-5.is))
 
 pub var_type-requires : goal.var_type-requires
 unfolding uses_variable
-var_type-requires c = (laid_at _ _ _ c.requires.0.0 c.requires.0.1 refl, (var_known _ _ _ _ 8 c.requires.1.0.0 c.requires.1.0.1 c.requires.1.1.0.0 (sym c.kind_at-kind.ensures ∙ c.in-8.is) refl c.b_at.ensures, c.requires.1.1.1))
+var_type-requires c = record { laid = laid_at _ _ _ c.requires.laid.0 c.requires.laid.1 refl; inside = var_known _ _ _ _ 8 c.requires.inside.0 c.requires.inside.1 c.requires.known.0 (sym c.kind_at-kind.ensures ∙ c.in-8.is) refl c.b_at.ensures; told = c.requires.told }
 
 pub result_of-requires : goal.result_of-requires
-result_of-requires c = (laid_at _ _ _ c.requires.0.0 c.requires.0.1 refl).0
+result_of-requires c = (laid_at _ _ _ c.requires.laid.0 c.requires.laid.1 refl).0
 
 pub returns-in-3 : goal.returns-in-3
 unfolding want_at wants_of
@@ -48,4 +49,4 @@ unfolding want_at wants_of
 returns-in-13 c = rw (sym c.kind_at-kind.ensures ∙ c.in-13.is)
 
 pub returns-in_default : goal.returns-in_default
-returns-in_default c = want_rest _ _ _ _ _ _ _ (sym c.kind_at-kind.ensures) c.in_default.rest.0.0.0.0.0.0.0.1 c.in_default.rest.0.0.0.0.0.0.1 c.in_default.rest.0.0.0.0.0.1 c.in_default.rest.0.0.0.0.1 c.in_default.rest.0.0.0.1 c.in_default.rest.0.0.1 c.in_default.rest.0.1 c.in_default.rest.1
+returns-in_default c = want_rest _ _ _ _ _ _ _ (sym c.kind_at-kind.ensures) (omega arith) (omega arith) (omega arith) (omega arith) (omega arith) (omega arith) (omega arith) (omega arith)

@@ -10,7 +10,7 @@ use Rattle.desk_places.proofs.Holding.{Ends, held, passed, held_none}
 use Rattle.desk_places.proofs.locate_node.Goals as goal
 
 pub loop-f-init : goal.loop-f-init
-loop-f-init c = (search rules, rw (start_first, c.requires.0.0), search rules, search rules, below_none _)
+loop-f-init c = (search rules, rw (start_first, c.requires.counted.0), search rules, search rules, below_none _)
 
 pub returns-then-place-end : goal.returns-then-place-end
 returns-then-place-end c = let L = c.loop-f in
@@ -22,4 +22,4 @@ loop-f-preserved c = let L = c.loop-f in
     (search rules, start_next _ _ L.invariant.1 n, search rules, search rules, below_more _ _ L.invariant.4 (passed _ _ _ _ _ L.invariant.1 n c.if-place-end.false))
 
 pub returns : goal.returns
-returns c = held_none _ _ _ _ c.requires.0.0 (omega arith) c.loop-f.invariant.4
+returns c = held_none _ _ _ _ c.requires.counted.0 (omega arith) c.loop-f.invariant.4

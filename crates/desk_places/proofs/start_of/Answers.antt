@@ -7,7 +7,7 @@ use Rattle.records.proofs.PartWalks.{start_first, start_next}
 use Rattle.desk_places.proofs.start_of.Goals as goal
 
 pub loop-f-init : goal.loop-f-init
-loop-f-init c = (search rules, rw (start_first, c.requires.0.0), search rules)
+loop-f-init c = (search rules, rw (start_first, c.requires.counted.0), search rules)
 
 pub loop-f-preserved : goal.loop-f-preserved
 loop-f-preserved c = (search rules, start_next _ _ c.loop-f.invariant.1 c.count_of-start.ensures.0, search rules)

@@ -22,4 +22,4 @@ pub put_record-requires : goal.put_record-requires
 put_record-requires c = let z = c.requires.0 in (c.joined-both.ensures _ _ c.requires.3 c.extent_of-after.ensures, c.count_changes-k.ensures.0, room c.args.file.now (λ i. (c.shared_slice_known-1.given i).fits) z.passed z.state z.rest z.fit (c.run-ran.ensures z.state z.rest z.held z.fit) c.args.log.now c.args.used c.if-ran-eq0.false (c.requires.2 ∙ first_words z.state z.rest c.args.file.now z.fit z.held) (c.record_bytes-bytes.ensures _ _ c.requires.3.long c.count_changes-k.ensures.0) c.if-log-used.false (ltb-false _ _ c.if-log-used-2.false-raw))
 
 pub returns : goal.returns
-returns c s R e f = taken c.args.file.now (λ i. (c.shared_slice_known-1.given i).fits) c.requires.0.passed s R f (c.run-ran.ensures s R e f) c.args.log.now c.args.used c.if-ran-eq0.false (c.requires.2 ∙ first_words s R c.args.file.now f e) (c.record_bytes-bytes.ensures _ _ c.requires.3.long c.count_changes-k.ensures.0) c.if-log-used.false (ltb-false _ _ c.if-log-used-2.false-raw) c.extent_of-after.ensures c.put_record.ensures.1 c.put_record.ensures.0
+returns c s R e f = taken c.args.file.now (λ i. (c.shared_slice_known-1.given i).fits) c.requires.0.passed s R f (c.run-ran.ensures s R e f) c.args.log.now c.args.used c.if-ran-eq0.false (c.requires.2 ∙ first_words s R c.args.file.now f e) (c.record_bytes-bytes.ensures _ _ c.requires.3.long c.count_changes-k.ensures.0) c.if-log-used.false (ltb-false _ _ c.if-log-used-2.false-raw) c.extent_of-after.ensures c.put_record.ensures.words c.put_record.ensures.log

@@ -9,30 +9,27 @@ use Rattle.entry_log.proofs.step_back.Goals as goal
 
 pub returns-in-Refused : goal.returns-in-Refused
 unfolding says
-returns-in-Refused c = let q = back_early _ _ _ _ _ (sym c.check_memory.ensures.0 ∙ ap says c.in-Refused.is) in
-    (q.0, (rw c.in-Refused.is at c.check_memory.ensures.1, q.1))
+returns-in-Refused c = let q = back_early _ _ _ _ _ (sym c.check_memory.ensures.answer ∙ ap says c.in-Refused.is) in record { answer = q.0; small = rw c.in-Refused.is at c.check_memory.ensures.small; memory = q.1 }
 
 pub go_back-requires : goal.go_back-requires
 unfolding says
-go_back-requires c = may_go _ _ _ _ (sym c.check_memory.ensures.0 ∙ ap says c.in_default.is) _ c.last_bytes-bytes.ensures c.if-bytes-eq0.false
+go_back-requires c = may_go _ _ _ _ (sym c.check_memory.ensures.answer ∙ ap says c.in_default.is) _ c.last_bytes-bytes.ensures c.if-bytes-eq0.false
 
 pub shape_of-m-then-bytes-eq0 : goal.shape_of-m-then-bytes-eq0
 shape_of-m-then-bytes-eq0 c = ⊎_elim (λ w. ap length w.1) (λ w. ap length w.6 ∙ w.3.given) c.then-bytes-eq0.branch
 
 pub returns-then-bytes-eq0 : goal.returns-then-bytes-eq0
 unfolding says
-returns-then-bytes-eq0 c = let e = sym c.check_memory.ensures.0 ∙ ap says c.in_default.is in
+returns-then-bytes-eq0 c = let e = sym c.check_memory.ensures.answer ∙ ap says c.in_default.is in
     let q = ⊎_elim
     (λ w. no_record _ _ _ _ e _ c.last_bytes-bytes.ensures w.0.taken c.then-bytes-eq0.m w.1)
     (λ w. not_back _ _ _ _ e _ c.last_bytes-bytes.ensures w.0.left _ _ w.2.ensures.0 w.2.ensures.1 (not-true _ w.5.taken) c.then-bytes-eq0.m w.6)
-    c.then-bytes-eq0.branch in
-    (q.0, ((search rules, search rules), q.1))
+    c.then-bytes-eq0.branch in record { answer = q.0; small = (search rules, search rules); memory = q.1 }
 
 pub overflow_sub-result : goal.overflow_sub-result
 unfolding says
-overflow_sub-result c = record_within _ _ _ _ (sym c.check_memory.ensures.0 ∙ ap says c.in_default.is) _ c.last_bytes-bytes.ensures c.if-bytes-eq0.false
+overflow_sub-result c = record_within _ _ _ _ (sym c.check_memory.ensures.answer ∙ ap says c.in_default.is) _ c.last_bytes-bytes.ensures c.if-bytes-eq0.false
 
 pub returns : goal.returns
 unfolding says
-returns c = let q = went_back_lem _ _ _ _ (sym c.check_memory.ensures.0 ∙ ap says c.in_default.is) _ c.last_bytes-bytes.ensures c.if-bytes-eq0.false _ _ c.go_back.ensures.0 c.go_back.ensures.1 (not-false _ c.if-not-go_back.false-raw) in
-    (q.0, (tt, q.1))
+returns c = let q = went_back_lem _ _ _ _ (sym c.check_memory.ensures.answer ∙ ap says c.in_default.is) _ c.last_bytes-bytes.ensures c.if-bytes-eq0.false _ _ c.go_back.ensures.answer c.go_back.ensures.memory (not-false _ c.if-not-go_back.false-raw) in record { answer = q.0; small = tt; memory = q.1 }

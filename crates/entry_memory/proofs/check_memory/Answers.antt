@@ -7,20 +7,20 @@ use Rattle.entry_memory.proofs.check_memory.Goals as goal
 
 pub returns-in-Refused : goal.returns-in-Refused
 unfolding says
-returns-in-Refused c = (memory_early _ _ _ _ _ (sym c.check.ensures.0 ∙ ap says c.in-Refused.is), rw c.in-Refused.is at c.check.ensures.1)
+returns-in-Refused c = record { answer = memory_early _ _ _ _ _ (sym c.check.ensures.exact ∙ ap says c.in-Refused.is); small = rw c.in-Refused.is at c.check.ensures.small }
 
 pub returns-then-m-lt-IMAGE_WORDS : goal.returns-then-m-lt-IMAGE_WORDS
 unfolding says
-returns-then-m-lt-IMAGE_WORDS c = (memory_short _ _ (sym c.check.ensures.0 ∙ ap says c.in_default.is) c.if-m-lt-IMAGE_WORDS.true, (search rules, search rules))
+returns-then-m-lt-IMAGE_WORDS c = record { answer = memory_short _ _ (sym c.check.ensures.exact ∙ ap says c.in_default.is) c.if-m-lt-IMAGE_WORDS.true; small = (search rules, search rules) }
 
 pub holds_fit-requires : goal.holds_fit-requires
 unfolding says
-holds_fit-requires c = (sym c.check.ensures.0 ∙ ap says c.in_default.is, c.if-m-lt-IMAGE_WORDS.false)
+holds_fit-requires c = (sym c.check.ensures.exact ∙ ap says c.in_default.is, c.if-m-lt-IMAGE_WORDS.false)
 
 pub returns-then-not-holds_fit : goal.returns-then-not-holds_fit
 unfolding says
-returns-then-not-holds_fit c = (memory_none _ _ (sym c.check.ensures.0 ∙ ap says c.in_default.is) c.if-m-lt-IMAGE_WORDS.false (sym c.holds_fit.ensures ∙ not-true _ c.if-not-holds_fit.true-raw), (search rules, search rules))
+returns-then-not-holds_fit c = record { answer = memory_none _ _ (sym c.check.ensures.exact ∙ ap says c.in_default.is) c.if-m-lt-IMAGE_WORDS.false (sym c.holds_fit.ensures ∙ not-true _ c.if-not-holds_fit.true-raw); small = (search rules, search rules) }
 
 pub returns : goal.returns
 unfolding says
-returns c = (memory_held _ _ (sym c.check.ensures.0 ∙ ap says c.in_default.is) c.if-m-lt-IMAGE_WORDS.false (sym c.holds_fit.ensures ∙ not-false _ c.if-not-holds_fit.false-raw), tt)
+returns c = record { answer = memory_held _ _ (sym c.check.ensures.exact ∙ ap says c.in_default.is) c.if-m-lt-IMAGE_WORDS.false (sym c.holds_fit.ensures ∙ not-false _ c.if-not-holds_fit.false-raw); small = tt }

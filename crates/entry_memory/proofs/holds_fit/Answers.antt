@@ -4,10 +4,10 @@ use borrow.Author.Rules.{rules}
 use Rattle.entry_memory.proofs.holds_fit.Goals as goal
 
 pub returns-then-not-holds_image : goal.returns-then-not-holds_image
-returns-then-not-holds_image c = no_image _ _ c.requires.0 _ c.holds_image.ensures.1 (not-true _ c.if-not-holds_image.true-raw)
+returns-then-not-holds_image c = no_image _ _ c.requires.0 _ c.holds_image.ensures.complete (not-true _ c.if-not-holds_image.true-raw)
 
 pub fits-requires : goal.fits-requires
-fits-requires c = (c.requires.0, c.requires.1, image_held _ (c.holds_image.ensures.0 (not-false _ c.if-not-holds_image.false-raw)))
+fits-requires c = (c.requires.0, c.requires.1, image_held _ (c.holds_image.ensures.sound (not-false _ c.if-not-holds_image.false-raw)))
 
 pub returns : goal.returns
-returns c = an_image _ _ _ (c.holds_image.ensures.0 (not-false _ c.if-not-holds_image.false-raw)) c.fits2.ensures
+returns c = an_image _ _ _ (c.holds_image.ensures.sound (not-false _ c.if-not-holds_image.false-raw)) c.fits2.ensures

@@ -8,20 +8,20 @@ use Rattle.entry_memory.proofs.look_up.Goals as goal
 
 pub returns-in-Refused : goal.returns-in-Refused
 unfolding says look_of
-returns-in-Refused c = (rw (look_early _ _ _ _ _ _ (sym c.check_memory.ensures.0 ∙ ap says c.in-Refused.is)), rw c.in-Refused.is at c.check_memory.ensures.1)
+returns-in-Refused c = record { answer = rw (look_early _ _ _ _ _ _ (sym c.check_memory.ensures.answer ∙ ap says c.in-Refused.is)); small = rw c.in-Refused.is at c.check_memory.ensures.small }
 
 pub has_variable-requires : goal.has_variable-requires
 unfolding says
-has_variable-requires c = let e = sym c.check_memory.ensures.0 ∙ ap says c.in_default.is in (room_held _ _ e, state_held _ _ e)
+has_variable-requires c = let e = sym c.check_memory.ensures.answer ∙ ap says c.in_default.is in (room_held _ _ e, state_held _ _ e)
 
 pub returns-then-not-has_variable : goal.returns-then-not-has_variable
 unfolding says look_of
-returns-then-not-has_variable c = (rw (look_none _ _ _ (sym c.check_memory.ensures.0 ∙ ap says c.in_default.is) (sym c.has_variable.ensures ∙ not-true _ c.if-not-has_variable.true-raw)), (search rules, search rules))
+returns-then-not-has_variable c = record { answer = rw (look_none _ _ _ (sym c.check_memory.ensures.answer ∙ ap says c.in_default.is) (sym c.has_variable.ensures ∙ not-true _ c.if-not-has_variable.true-raw)); small = (search rules, search rules) }
 
 pub value_in-requires : goal.value_in-requires
 unfolding says
-value_in-requires c = let e = sym c.check_memory.ensures.0 ∙ ap says c.in_default.is in (room_held _ _ e, state_held _ _ e, sym c.has_variable.ensures ∙ not-false _ c.if-not-has_variable.false-raw)
+value_in-requires c = let e = sym c.check_memory.ensures.answer ∙ ap says c.in_default.is in (room_held _ _ e, state_held _ _ e, sym c.has_variable.ensures ∙ not-false _ c.if-not-has_variable.false-raw)
 
 pub returns : goal.returns
 unfolding says
-returns c = (c.look_of.ensures.0 ∙ rw (c.value_in.ensures, look_granted _ _ _ (sym c.check_memory.ensures.0 ∙ ap says c.in_default.is) (sym c.has_variable.ensures ∙ not-false _ c.if-not-has_variable.false-raw)), c.look_of.ensures.1)
+returns c = record { answer = c.look_of.ensures.answer ∙ rw (c.value_in.ensures, look_granted _ _ _ (sym c.check_memory.ensures.answer ∙ ap says c.in_default.is) (sym c.has_variable.ensures ∙ not-false _ c.if-not-has_variable.false-raw)); small = c.look_of.ensures.small }

@@ -6,12 +6,12 @@ use Rattle.entry_start.proofs.start.Goals as goal
 
 pub returns-in-Refused : goal.returns-in-Refused
 unfolding says
-returns-in-Refused c = let w = refused_early _ _ _ _ _ (sym c.check.ensures.0 ∙ ap says c.in-Refused.is) in (w.0, (w.1, rw c.in-Refused.is at c.check.ensures.1))
+returns-in-Refused c = let w = refused_early _ _ _ _ _ (sym c.check.ensures.exact ∙ ap says c.in-Refused.is) in record { answer = w.0; memory = w.1; small = rw c.in-Refused.is at c.check.ensures.small }
 
 pub returns-then-m-lt-IMAGE_WORDS : goal.returns-then-m-lt-IMAGE_WORDS
 unfolding says
-returns-then-m-lt-IMAGE_WORDS c = let w = no_room _ _ (sym c.check.ensures.0 ∙ ap says c.in_default.is) c.if-m-lt-IMAGE_WORDS.true in (w.0, (w.1, (search rules, search rules)))
+returns-then-m-lt-IMAGE_WORDS c = let w = no_room _ _ (sym c.check.ensures.exact ∙ ap says c.in_default.is) c.if-m-lt-IMAGE_WORDS.true in record { answer = w.0; memory = w.1; small = (search rules, search rules) }
 
 pub returns : goal.returns
 unfolding says
-returns c = let w = started _ _ _ (sym c.check.ensures.0 ∙ ap says c.in_default.is) c.if-m-lt-IMAGE_WORDS.false c.write_start.ensures in (w.0, (w.1, tt))
+returns c = let w = started _ _ _ (sym c.check.ensures.exact ∙ ap says c.in_default.is) c.if-m-lt-IMAGE_WORDS.false c.write_start.ensures in record { answer = w.0; memory = w.1; small = tt }

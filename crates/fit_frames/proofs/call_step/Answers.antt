@@ -15,23 +15,23 @@ unfolding operands
 returns-then-not-d c = gather_none c.refused.ensures (not-true _ c.if-not-d.true)
 
 pub function_count-requires : goal.function_count-requires
-function_count-requires c = omega (arith, (laid c.args.file.now c.requires.0.0.passed).heads)
+function_count-requires c = omega (arith, (laid c.args.file.now c.requires.part.0.passed).heads)
 
 pub returns-then-function_count-g : goal.returns-then-function_count-g
 unfolding operands program_of
 returns-then-function_count-g c = gather_unknown c.refused-then-function_count-g.ensures (rw (sym c.frame_word-g.ensures) (le-ltb _ _ (rw c.function_count.ensures.0 at c.if-function_count-g.true)))
 
 pub params_of-requires : goal.params_of-requires
-params_of-requires c = record_in_lem c.args.file.now c.requires.0.0.passed c.frame_word-g.result (rw c.function_count.ensures.0 at c.if-function_count-g.false)
+params_of-requires c = record_in_lem c.args.file.now c.requires.part.0.passed c.frame_word-g.result (rw c.function_count.ensures.0 at c.if-function_count-g.false)
 
 pub mask_of-requires : goal.mask_of-requires
-mask_of-requires c = record_in_lem c.args.file.now c.requires.0.0.passed c.frame_word-g.result (rw c.function_count.ensures.0 at c.if-function_count-g.false)
+mask_of-requires c = record_in_lem c.args.file.now c.requires.part.0.passed c.frame_word-g.result (rw c.function_count.ensures.0 at c.if-function_count-g.false)
 
 pub gathers-ok-requires : goal.gathers-ok-requires
-gathers-ok-requires c = (c.requires.0, (c.requires.1.0, c.requires.1.1, omega (arith, (laid c.args.file.now c.requires.0.0.passed).params c.frame_word-g.result (rw c.function_count.ensures.0 at c.if-function_count-g.false), c.wide-count.ensures.0, c.params_of.ensures)))
+gathers-ok-requires c = record { part = c.requires.part; room = (c.requires.room.0, c.requires.room.1, omega (arith, (laid c.args.file.now c.requires.part.0.passed).params c.frame_word-g.result (rw c.function_count.ensures.0 at c.if-function_count-g.false), c.wide-count.ensures.0, c.params_of.ensures)) }
 
 pub result_of-requires : goal.result_of-requires
-result_of-requires c = record_in_lem c.args.file.now c.requires.0.0.passed c.frame_word-g.result (rw c.function_count.ensures.0 at c.if-function_count-g.false)
+result_of-requires c = record_in_lem c.args.file.now c.requires.part.0.passed c.frame_word-g.result (rw c.function_count.ensures.0 at c.if-function_count-g.false)
 
 pub returns : goal.returns
 unfolding operands program_of fun_of

@@ -5,4 +5,4 @@ use borrow.Author.Rules.{rules}
 use Rattle.fit_image.proofs.holds_image.Goals as goal
 
 pub returns : goal.returns
-returns c = let e = c.image_ok.ensures in (λ h. image_sound _ c.requires (sym e ∙ h), λ s w n h. e ∙ image_complete _ s w n h)
+returns c = let e = c.image_ok.ensures in record { sound = λ h. image_sound _ c.requires (sym e ∙ h); complete = λ s w n h. e ∙ image_complete _ s w n h }

@@ -3,4 +3,4 @@ use borrow.Author.Rules.{rules}
 use Rattle.fit_nodes.proofs.decls_of.Goals as goal
 
 pub decl_table-requires : goal.decl_table-requires
-decl_table-requires c = (inside c.requires, named c.requires)
+decl_table-requires c = record { inside = inside c.requires; named = named c.requires }

@@ -4,7 +4,7 @@ use Rattle.fit_nodes.proofs.Sorts.{expression_inside, own_type}
 use Rattle.fit_nodes.proofs.expression_type.Goals as goal
 
 pub type_of-requires : goal.type_of-requires
-type_of-requires c = let p = c.requires.0 in ((laid p, p.known), ((inside p, expression_inside p _ c.requires.2), ((nodes p, calls p), c.requires.1)))
+type_of-requires c = let p = c.requires.0 in record { laid = (laid p, p.known); inside = (inside p, expression_inside p _ c.requires.2); known = (nodes p, calls p); told = c.requires.1 }
 
 pub returns : goal.returns
 returns c = c.type_of.ensures ∙ own_type c.requires.0 _ c.requires.2

@@ -8,22 +8,22 @@ use Rattle.fit_state.proofs.Lists.{in_variables, in_over, in_frames}
 use Rattle.fit_state.proofs.activation_in.Goals as goal
 
 pub decls_of-decls-requires : goal.decls_of-decls-requires
-decls_of-decls-requires c = c.requires.0.0
+decls_of-decls-requires c = c.requires.part.0
 
 pub variables_hold-vars-requires : goal.variables_hold-vars-requires
-variables_hold-vars-requires c = ((c.requires.0.0, c.decls_of-decls.ensures), (c.requires.1.0, c.requires.1.1, c.requires.1.2, c.requires.1.3))
+variables_hold-vars-requires c = record { part = (c.requires.part.0, c.decls_of-decls.ensures); room = (c.requires.room.0, c.requires.room.1, c.requires.room.2, c.requires.room.3) }
 
 pub returns-then-not-vars : goal.returns-then-not-vars
 returns-then-not-vars c = let a = c.args in sym (in_variables c.variables_hold-vars.ensures (over_is a.over) (entries 20 frame_of a.m.now (4480 + a.low * 20) a.k) (not-true _ c.if-not-vars.true))
 
 pub over_frames-next-requires : goal.over_frames-next-requires
-over_frames-next-requires c = (c.requires.0.0, c.decls_of-decls.ensures, c.requires.0.1)
+over_frames-next-requires c = (c.requires.part.0, c.decls_of-decls.ensures, c.requires.part.1)
 
 pub returns-then-not-next : goal.returns-then-not-next
 returns-then-not-next c = let a = c.args in sym (in_over c.variables_hold-vars.ensures (over_is a.over) (entries 20 frame_of a.m.now (4480 + a.low * 20) a.k) (not-false _ c.if-not-vars.false) c.over_frames-next.ensures (not-true _ c.if-not-next.true))
 
 pub frames_fit-requires : goal.frames_fit-requires
-frames_fit-requires c = ((c.requires.0.0, c.decls_of-decls.ensures, c.requires.0.1), (c.requires.1.0, c.requires.1.4))
+frames_fit-requires c = record { part = (c.requires.part.0, c.decls_of-decls.ensures, c.requires.part.1); room = (c.requires.room.0, c.requires.room.4) }
 
 pub returns : goal.returns
 returns c = let a = c.args in c.frames_fit.ensures ∙ sym (in_frames c.variables_hold-vars.ensures (over_is a.over) (entries 20 frame_of a.m.now (4480 + a.low * 20) a.k) (not-false _ c.if-not-vars.false) c.over_frames-next.ensures (not-false _ c.if-not-next.false))

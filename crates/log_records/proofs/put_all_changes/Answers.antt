@@ -14,7 +14,7 @@ pub put_changes-next-requires : goal.put_changes-next-requires
 put_changes-next-requires c = let e = low_length c.requires.0 c.args.a.now c.requires.0.before-long in (e ∙ sym (low_length c.requires.0 c.args.b.now c.requires.0.after-long), omega (arith, e, c.requires.0.low), omega (arith, apart_count c.requires.0, c.requires.1))
 
 pub put_changes-requires : goal.put_changes-requires
-put_changes-requires c = second_room c.requires.0 c.args.log.now c.args.at c.put_changes-next.ensures.1.1 c.put_changes-next.ensures.1.0 c.put_changes-next.ensures.0 c.requires.1
+put_changes-requires c = second_room c.requires.0 c.args.log.now c.args.at c.put_changes-next.ensures.words c.put_changes-next.ensures.log c.put_changes-next.ensures.end c.requires.1
 
 pub returns : goal.returns
-returns c = both_put c.requires.0 c.args.log.now c.args.at c.put_changes-next.ensures.1.1 c.put_changes.ensures.1.1 c.put_changes-next.ensures.1.0 c.put_changes-next.ensures.0 c.put_changes.ensures.1.0 c.put_changes.ensures.0
+returns c = both_put c.requires.0 c.args.log.now c.args.at c.put_changes-next.ensures.words c.put_changes.ensures.words c.put_changes-next.ensures.log c.put_changes-next.ensures.end c.put_changes.ensures.log c.put_changes.ensures.end

@@ -20,4 +20,4 @@ loop-i-preserved c = ⊎_elim
     c.if-old-new.branch
 
 pub returns : goal.returns
-returns c = let q = put_all c.loop-i.invariant c.loop-i-test.false c.requires.0 in (q.0, (q.1, q.2))
+returns c = let q = put_all c.loop-i.invariant c.loop-i-test.false c.requires.0 in record { end = q.0; log = q.1; words = q.2 }

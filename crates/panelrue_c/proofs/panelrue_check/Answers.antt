@@ -9,4 +9,4 @@ unfolding packed
 returns-then-is_cut c = sym (ap packed (one_fails _ (c.is_cut.ensures c.if-is_cut.true)))
 
 pub returns : goal.returns
-returns c = c.number.ensures ∙ ap packed c.check.ensures.0
+returns c = c.number.ensures ∙ ap packed c.check.ensures.exact

@@ -4,4 +4,4 @@ use borrow.Author.Rules.{rules}
 use Rattle.panelrue_c.proofs.panelrue_memory_check.Goals as goal
 
 pub returns : goal.returns
-returns c = c.number.ensures ∙ ap packed c.check_memory.ensures.0
+returns c = c.number.ensures ∙ ap packed c.check_memory.ensures.answer

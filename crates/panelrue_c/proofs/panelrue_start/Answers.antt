@@ -4,7 +4,7 @@ use borrow.Author.Rules.{rules}
 use Rattle.panelrue_c.proofs.panelrue_start.Goals as goal
 
 pub number-requires : goal.number-requires
-number-requires c = c.start.ensures.1.1
+number-requires c = c.start.ensures.small
 
 pub returns : goal.returns
-returns c = (c.number.ensures ∙ ap packed c.start.ensures.0, c.start.ensures.1.0)
+returns c = record { answer = c.number.ensures ∙ ap packed c.start.ensures.answer; memory = c.start.ensures.memory }

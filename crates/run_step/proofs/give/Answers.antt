@@ -31,8 +31,7 @@ top_frame-top-requires c = let x = over c.args.file.now c.args.starts.now (value
 pub operate-requires : goal.operate-requires
 operate-requires c = let x = over c.args.file.now c.args.starts.now (value_is c.args.v) c.args.h c.args.m.now c.requires.0 in
     let v = c.top_frame-top.ensures _ x.variables x.top x.frames x.callers x.rest x.held (few c.args.file.now c.args.starts.now c.args.v c.args.h c.args.m.now x) (under c.args.file.now c.args.starts.now c.args.v c.args.h c.args.m.now x) in
-    let r = operate_ready c.args.file.now c.args.starts.now c.args.v c.args.h c.args.m.now x _ _ _ (is_operator _ _ v _ _ _ c.in-Operator.is) c.if-z-eq0.true in
-    (((bounded c.args.file.now c.args.starts.now c.args.v c.args.h c.args.m.now x c.requires.2), (framed c.args.file.now c.args.starts.now c.args.v c.args.h c.args.m.now x), r.0, omega (arith, x.starts.0.heads)), (r.1, r.2))
+    let r = operate_ready c.args.file.now c.args.starts.now c.args.v c.args.h c.args.m.now x _ _ _ (is_operator _ _ v _ _ _ c.in-Operator.is) c.if-z-eq0.true in record { bounds = ((bounded c.args.file.now c.args.starts.now c.args.v c.args.h c.args.m.now x c.requires.2), (framed c.args.file.now c.args.starts.now c.args.v c.args.h c.args.m.now x), r.0, omega (arith, x.starts.0.heads)); ints = (r.1, r.2) }
 
 pub returns-then-z-eq0 : goal.returns-then-z-eq0
 unfolding control_is ref_of value_is
@@ -45,8 +44,7 @@ pub next_operand-requires : goal.next_operand-requires
 unfolding program_of
 next_operand-requires c = let x = over c.args.file.now c.args.starts.now (value_is c.args.v) c.args.h c.args.m.now c.requires.0 in
     let v = c.top_frame-top.ensures _ x.variables x.top x.frames x.callers x.rest x.held (few c.args.file.now c.args.starts.now c.args.v c.args.h c.args.m.now x) (under c.args.file.now c.args.starts.now c.args.v c.args.h c.args.m.now x) in
-    let r = operand_ready c.args.file.now c.args.starts.now c.args.v c.args.h c.args.m.now x _ _ _ (is_operator _ _ v _ _ _ c.in-Operator.is) c.if-z-eq0.false in
-    (((bounded c.args.file.now c.args.starts.now c.args.v c.args.h c.args.m.now x c.requires.2), (framed c.args.file.now c.args.starts.now c.args.v c.args.h c.args.m.now x), r.0, r.1), part_inside _ c.args.starts.now _ c.args.h.function _ x.starts x.fit.proper.known c.requires.1 r.2)
+    let r = operand_ready c.args.file.now c.args.starts.now c.args.v c.args.h c.args.m.now x _ _ _ (is_operator _ _ v _ _ _ c.in-Operator.is) c.if-z-eq0.false in record { bounds = ((bounded c.args.file.now c.args.starts.now c.args.v c.args.h c.args.m.now x c.requires.2), (framed c.args.file.now c.args.starts.now c.args.v c.args.h c.args.m.now x), r.0, r.1); inside = part_inside _ c.args.starts.now _ c.args.h.function _ x.starts x.fit.proper.known c.requires.1 r.2 }
 
 pub enter-requires : goal.enter-requires
 enter-requires c = let x = over c.args.file.now c.args.starts.now (value_is c.args.v) c.args.h c.args.m.now c.requires.0 in
@@ -65,8 +63,7 @@ pub next_operand-requires-in-Call : goal.next_operand-requires-in-Call
 unfolding program_of
 next_operand-requires-in-Call c = let x = over c.args.file.now c.args.starts.now (value_is c.args.v) c.args.h c.args.m.now c.requires.0 in
     let v = c.top_frame-top.ensures _ x.variables x.top x.frames x.callers x.rest x.held (few c.args.file.now c.args.starts.now c.args.v c.args.h c.args.m.now x) (under c.args.file.now c.args.starts.now c.args.v c.args.h c.args.m.now x) in
-    let r = operand_ready c.args.file.now c.args.starts.now c.args.v c.args.h c.args.m.now x _ _ _ (is_call _ _ v _ _ _ c.in-Call.is) c.if-z-eq0-2.false in
-    (((bounded c.args.file.now c.args.starts.now c.args.v c.args.h c.args.m.now x c.requires.2), (framed c.args.file.now c.args.starts.now c.args.v c.args.h c.args.m.now x), r.0, r.1), part_inside _ c.args.starts.now _ c.args.h.function _ x.starts x.fit.proper.known c.requires.1 r.2)
+    let r = operand_ready c.args.file.now c.args.starts.now c.args.v c.args.h c.args.m.now x _ _ _ (is_call _ _ v _ _ _ c.in-Call.is) c.if-z-eq0-2.false in record { bounds = ((bounded c.args.file.now c.args.starts.now c.args.v c.args.h c.args.m.now x c.requires.2), (framed c.args.file.now c.args.starts.now c.args.v c.args.h c.args.m.now x), r.0, r.1); inside = part_inside _ c.args.starts.now _ c.args.h.function _ x.starts x.fit.proper.known c.requires.1 r.2 }
 
 pub reach-c-requires : goal.reach-c-requires
 unfolding program_of
@@ -98,8 +95,7 @@ choose-requires-in-Branch c = let x = over c.args.file.now c.args.starts.now (va
 pub depart-requires : goal.depart-requires
 depart-requires c = let x = over c.args.file.now c.args.starts.now (value_is c.args.v) c.args.h c.args.m.now c.requires.0 in
     let v = c.top_frame-top.ensures _ x.variables x.top x.frames x.callers x.rest x.held (few c.args.file.now c.args.starts.now c.args.v c.args.h c.args.m.now x) (under c.args.file.now c.args.starts.now c.args.v c.args.h c.args.m.now x) in
-    let e = is_leave _ _ v c.in-Leave.is in
-    (((bounded c.args.file.now c.args.starts.now c.args.v c.args.h c.args.m.now x c.requires.2), x.starts), (leave_main_ready c.args.file.now c.args.starts.now c.args.v c.args.h c.args.m.now x e, leave_ready c.args.file.now c.args.starts.now c.args.v c.args.h c.args.m.now x e))
+    let e = is_leave _ _ v c.in-Leave.is in record { bounds = ((bounded c.args.file.now c.args.starts.now c.args.v c.args.h c.args.m.now x c.requires.2), x.starts); outermost = leave_main_ready c.args.file.now c.args.starts.now c.args.v c.args.h c.args.m.now x e; called = leave_ready c.args.file.now c.args.starts.now c.args.v c.args.h c.args.m.now x e }
 
 pub affirm-requires : goal.affirm-requires
 affirm-requires c = let x = over c.args.file.now c.args.starts.now (value_is c.args.v) c.args.h c.args.m.now c.requires.0 in

@@ -11,30 +11,30 @@ use borrow.Author.Rules.{rules}
 use Rattle.run_step.proofs.operate.Goals as goal
 
 pub unreachable-requires : goal.unreachable-requires
-unreachable-requires c = int_only c.args.v c.requires.1.0 c.in_default.keys2
+unreachable-requires c = int_only c.args.v c.requires.ints.0 c.in_default.keys2
 
 pub unreachable-requires-in_default-slot_value : goal.unreachable-requires-in_default-slot_value
 unfolding slot_at
-unreachable-requires-in_default-slot_value c = int_only c.slot_value.result (int_words _ _ _ c.slot_value.ensures c.requires.1.1) c.in_default-slot_value.keys2
+unreachable-requires-in_default-slot_value c = int_only c.slot_value.result (int_words _ _ _ c.slot_value.ensures c.requires.ints.1) c.in_default-slot_value.keys2
 
 pub returns-in-Int-apply : goal.returns-in-Int-apply
 unfolding slot_at value_is control_is
-returns-in-Int-apply c α f η a b K A R e t i = let u = counted_under t (c.args.h.frames - 1) (omega (arith, c.requires.0.1)) in
+returns-in-Int-apply c α f η a b K A R e t i = let u = counted_under t (c.args.h.frames - 1) (omega (arith, c.requires.bounds.1)) in
     settled_int _ _ _ _ R α f η K A _ _ a b _ _
-    (stored _ _ f η _ a K A (R α) _ _ e (omega (arith, t.callers, c.requires.0.0.1)) u c.slot_value.ensures c.in-Int-slot_value.is)
+    (stored _ _ f η _ a K A (R α) _ _ e (omega (arith, t.callers, c.requires.bounds.0.1)) u c.slot_value.ensures c.in-Int-slot_value.is)
     (hand _ _ b c.in-Int.is i) _ (sym c.apply.ensures ∙ c.in-Int-apply.is) (c.take_off.ensures _ α f η _ K A R e t)
 
 pub returns-in-Truth : goal.returns-in-Truth
 unfolding slot_at value_is control_is
-returns-in-Truth c α f η a b K A R e t i = let u = counted_under t (c.args.h.frames - 1) (omega (arith, c.requires.0.1)) in
+returns-in-Truth c α f η a b K A R e t i = let u = counted_under t (c.args.h.frames - 1) (omega (arith, c.requires.bounds.1)) in
     settled_truth _ _ _ _ R α f η K A _ _ a b _ _
-    (stored _ _ f η _ a K A (R α) _ _ e (omega (arith, t.callers, c.requires.0.0.1)) u c.slot_value.ensures c.in-Int-slot_value.is)
+    (stored _ _ f η _ a K A (R α) _ _ e (omega (arith, t.callers, c.requires.bounds.0.1)) u c.slot_value.ensures c.in-Int-slot_value.is)
     (hand _ _ b c.in-Int.is i) _ (sym c.apply.ensures ∙ c.in-Truth.is) (c.take_off-in-Truth.ensures _ α f η _ K A R e t)
 
 pub returns-in-Arith : goal.returns-in-Arith
 unfolding slot_at StepsTo
-returns-in-Arith c α f η a b K A R e t i = let u = counted_under t (c.args.h.frames - 1) (omega (arith, c.requires.0.1)) in
+returns-in-Arith c α f η a b K A R e t i = let u = counted_under t (c.args.h.frames - 1) (omega (arith, c.requires.bounds.1)) in
     settled_arith _ _ _ _ R α f η K A _ _ a b _ _
-    (stored _ _ f η _ a K A (R α) _ _ e (omega (arith, t.callers, c.requires.0.0.1)) u c.slot_value.ensures c.in-Int-slot_value.is)
+    (stored _ _ f η _ a K A (R α) _ _ e (omega (arith, t.callers, c.requires.bounds.0.1)) u c.slot_value.ensures c.in-Int-slot_value.is)
     (hand _ _ b c.in-Int.is i) (sym c.apply.ensures ∙ c.in-Arith.is)
     (rw c.raise.ensures.0 (refl, c.raise.ensures.1))

@@ -22,7 +22,7 @@ pub returns-in-Eval : goal.returns-in-Eval
 returns-in-Eval c α f η K A R e t fit = eval_done _ _ _ _ _ R α f η K A _ _ _ c.in-Eval.is t (cut c.args.file.now c.args.starts.now (control_is c.args.c) c.args.h c.args.m.now c.requires.0) fit (λ i k. «PLACE After-open».«open».ensures α f η K A R e t c.requires.0.passed i k)
 
 pub execute-requires : goal.execute-requires
-execute-requires c = let e = at_fit_exec _ _ _ _ _ _ c.in-Exec.is c.requires.0 in (((bounds c.args.file.now c.args.starts.now (control_is c.args.c) c.args.h c.args.m.now c.requires.0 c.requires.1), executes c.args.file.now c.args.starts.now _ c.args.h c.args.m.now (cut c.args.file.now c.args.starts.now (control_is c.args.c) c.args.h c.args.m.now c.requires.0) _ e), waiting _ _ _ _ _ e)
+execute-requires c = let e = at_fit_exec _ _ _ _ _ _ c.in-Exec.is c.requires.0 in record { bounds = ((bounds c.args.file.now c.args.starts.now (control_is c.args.c) c.args.h c.args.m.now c.requires.0 c.requires.1), executes c.args.file.now c.args.starts.now _ c.args.h c.args.m.now (cut c.args.file.now c.args.starts.now (control_is c.args.c) c.args.h c.args.m.now c.requires.0) _ e); waits = waiting _ _ _ _ _ e }
 
 pub returns-in-Exec : goal.returns-in-Exec
 returns-in-Exec c α f η K A R e t fit = exec_done _ _ _ _ _ R α f η K A _ _ _ c.in-Exec.is t (cut c.args.file.now c.args.starts.now (control_is c.args.c) c.args.h c.args.m.now c.requires.0) fit (λ i k. c.execute.ensures _ α f η K A R e t c.requires.0.passed i k)

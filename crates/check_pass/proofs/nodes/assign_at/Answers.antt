@@ -9,11 +9,11 @@ use Rattle.check_pass.proofs.nodes.assign_at.Goals as goal
 
 pub var_type-want-requires : goal.var_type-want-requires
 unfolding names_variable uses_variable
-var_type-want-requires c = (laid_at _ _ _ c.requires.0.part.laid c.requires.0.part.function refl, ((c.requires.0.part.inside, omega (arith, c.requires.0.below), rw c.b_at-x.ensures (c.requires.0.part.named _ c.requires.0.below (rw c.requires.1 refl))), c.requires.0.part.told))
+var_type-want-requires c = record { laid = laid_at _ _ _ c.requires.0.part.laid c.requires.0.part.function refl; inside = (c.requires.0.part.inside, omega (arith, c.requires.0.below), rw c.b_at-x.ensures (c.requires.0.part.named _ c.requires.0.below (rw c.requires.1 refl))); told = c.requires.0.part.told }
 
 pub strays-inside-requires : goal.strays-inside-requires
 unfolding names_variable uses_variable
-strays-inside-requires c = ((laid_at _ _ _ c.requires.0.part.laid c.requires.0.part.function refl).0, ((c.requires.0.part.inside, c.requires.0.below), ((rw c.requires.1 refl, c.requires.0.part.named _ c.requires.0.below (rw c.requires.1 refl)), c.requires.0.part.told)))
+strays-inside-requires c = record { laid = (laid_at _ _ _ c.requires.0.part.laid c.requires.0.part.function refl).0; inside = (c.requires.0.part.inside, c.requires.0.below); uses = (rw c.requires.1 refl, c.requires.0.part.named _ c.requires.0.below (rw c.requires.1 refl)); told = c.requires.0.part.told }
 
 pub insert-requires : goal.insert-requires
 unfolding names_variable uses_variable

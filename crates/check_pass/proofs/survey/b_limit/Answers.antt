@@ -1,6 +1,7 @@
 use mathlib.Core.Logic.{inl, inr, ⊎_elim}
 use Rattle.check_pass.specs.Limits.{b_limits}
 use Rattle.check_pass.proofs.Limits.{b_rest, b_past}
+use native.Mathlib.Omega.{arith}
 use Rattle.check_pass.proofs.survey.b_limit.Goals as goal
 
 pub returns-in-0 : goal.returns-in-0
@@ -20,7 +21,7 @@ unfolding b_limits
 returns-in-5 c = ⊎_elim (λ e. rw e) (λ e. rw e) c.in-5.is
 
 pub returns-in-0-to-15 : goal.returns-in-0-to-15
-returns-in-0-to-15 c = b_rest _ _ c.if-kind-lt16.true c.in_default-1.rest.0.0.0.1 c.in_default-1.rest.0.0.1 (λ e. c.in_default-1.rest.0.1 (inl e)) (λ e. c.in_default-1.rest.0.1 (inr e)) (λ e. c.in_default-1.rest.1 (inl e)) (λ e. c.in_default-1.rest.1 (inr e))
+returns-in-0-to-15 c = b_rest _ _ (omega arith) (omega arith) (omega arith) (λ e. (omega arith) (inl e)) (λ e. (omega arith) (inr e)) (λ e. (omega arith) (inl e)) (λ e. (omega arith) (inr e))
 
 pub returns-in_default : goal.returns-in_default
-returns-in_default c = b_past _ _ c.if-kind-lt16.false
+returns-in_default c = b_past _ _ (omega arith)

@@ -15,31 +15,31 @@ use Rattle.check_pass.proofs.Surveying.{decl_narrow, surveyed}
 use Rattle.check_pass.proofs.survey.survey_part.Goals as goal
 
 pub b_limits-limits-requires : goal.b_limits-limits-requires
-b_limits-limits-requires c = omega (arith, c.requires.0.0.heads, c.requires.0.1)
+b_limits-limits-requires c = omega (arith, c.requires.laid.0.heads, c.requires.laid.1)
 
 pub loop-i-init : goal.loop-i-init
-loop-i-init c = (search rules, below_none _, counts_none _ _ c.empty.ensures c.empty-2.ensures, c.requires.1.1)
+loop-i-init c = (search rules, below_none _, counts_none _ _ c.empty.ensures c.empty-2.ensures, c.requires.empty)
 
 pub within_limits-requires : goal.within_limits-requires
-within_limits-requires c = (search rules, (c.a_limits-tops.ensures, c.b_limits-limits.ensures))
+within_limits-requires c = record { inside = search rules; limits = (c.a_limits-tops.ensures, c.b_limits-limits.ensures) }
 
 pub node_ok-requires : goal.node_ok-requires
-node_ok-requires c = ((c.requires.0.0.heads, c.requires.0.1), search rules)
+node_ok-requires c = record { heads = (c.requires.laid.0.heads, c.requires.laid.1); inside = search rules }
 
 pub returns-then-not-node_ok : goal.returns-then-not-node_ok
 returns-then-not-node_ok c = λ z. absurd (omega arith)
 
 pub count_decl-d-requires : goal.count_decl-d-requires
-count_decl-d-requires c = (search rules, (decl_narrow _ _ _ _ c.requires.0.0 c.requires.0.1 (sym c.node_ok.ensures ∙ not-false _ c.if-not-node_ok.false-raw), c.loop-i.invariant.2))
+count_decl-d-requires c = record { inside = search rules; narrow = decl_narrow _ _ _ _ c.requires.laid.0 c.requires.laid.1 (sym c.node_ok.ensures ∙ not-false _ c.if-not-node_ok.false-raw); counted = c.loop-i.invariant.2 }
 
 pub note_decl-requires : goal.note_decl-requires
-note_decl-requires c = (omega (arith, c.requires.1.0, c.loop-i-test.true), (decl_narrow _ _ _ _ c.requires.0.0 c.requires.0.1 (sym c.node_ok.ensures ∙ not-false _ c.if-not-node_ok.false-raw), c.loop-i.invariant.3))
+note_decl-requires c = record { inside = omega (arith, c.requires.inside, c.loop-i-test.true); narrow = decl_narrow _ _ _ _ c.requires.laid.0 c.requires.laid.1 (sym c.node_ok.ensures ∙ not-false _ c.if-not-node_ok.false-raw); told = c.loop-i.invariant.3 }
 
 pub loop-i-preserved : goal.loop-i-preserved
 loop-i-preserved c = ⊎_elim (λ w. (search rules, below_more _ _ c.loop-i.invariant.1 (sym (ap not w.1.ensures) ∙ w.2.left), rw w.7 w.3.ensures, rw w.6 w.5.ensures)) (λ w. (search rules, below_more _ _ c.loop-i.invariant.1 (ap not (c.within_limits.ensures (not-false _ w.0.left)).0), rw w.2 (counts_other _ _ _ c.loop-i.invariant.2 (c.within_limits.ensures (not-false _ w.0.left)).1), rw w.1 (noted_other _ c.loop-i.table _ c.loop-i.invariant.3 (c.within_limits.ensures (not-false _ w.0.left)).1))) c.if-not-within_limits.branch
 
 pub lowest_undeclared-requires : goal.lowest_undeclared-requires
-lowest_undeclared-requires c = ((omega (arith, c.requires.0.0.heads, c.requires.0.1), c.requires.0.0.vars _ c.requires.0.1, c.requires.0.0.params _ c.requires.0.1), rw (le_antisymm c.loop-i-test.false c.loop-i.invariant.0) c.loop-i.invariant.2)
+lowest_undeclared-requires c = record { laid = (omega (arith, c.requires.laid.0.heads, c.requires.laid.1), c.requires.laid.0.vars _ c.requires.laid.1, c.requires.laid.0.params _ c.requires.laid.1); counted = rw (le_antisymm c.loop-i-test.false c.loop-i.invariant.0) c.loop-i.invariant.2 }
 
 pub returns : goal.returns
 returns c = λ z. surveyed _ _ _ _ _ _ _ _ c.loop-i-test.false c.loop-i.invariant.0 c.loop-i.invariant.1 c.loop-i.invariant.3 c.lowest_undeclared.ensures c.past_seven.ensures.0

@@ -15,7 +15,7 @@ pub loop-i-init : goal.loop-i-init
 loop-i-init c = (search rules, refl)
 
 pub frame_step-next-requires : goal.frame_step-next-requires
-frame_step-next-requires c = (c.requires.0, (c.requires.1.0, omega (arith, c.requires.1.1, c.loop-i.invariant.0, c.loop-i-test.true)))
+frame_step-next-requires c = record { part = c.requires.part; room = (c.requires.room.0, omega (arith, c.requires.room.1, c.loop-i.invariant.0, c.loop-i-test.true)) }
 
 pub returns-then-not-next : goal.returns-then-not-next
 returns-then-not-next c = let l = c.loop-i in let a = c.args in sym (l.invariant.1 ∙ chain_less (program_of a.file.now) a.f a.m.now a.low l.i (incoming_is l.down) c.loop-i-test.true (sym c.frame_step-next.ensures.ok ∙ not-true _ c.if-not-next.true))

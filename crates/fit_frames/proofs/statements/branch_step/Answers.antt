@@ -17,7 +17,7 @@ pub returns-then-not-is_statement-2 : goal.returns-then-not-is_statement-2
 returns-then-not-is_statement-2 c = rw (← c.ref_of-q.ensures) (branch_second c.refused-then-not-is_statement-2.ensures (sym c.is_statement-2.ensures ∙ not-true _ c.if-not-is_statement-2.true-raw))
 
 pub branches-requires : goal.branches-requires
-branches-requires c = (c.requires, ((sym c.is_statement.ensures ∙ not-false _ c.if-not-is_statement.false-raw, sym c.is_statement-2.ensures ∙ not-false _ c.if-not-is_statement-2.false-raw), (not-false _ c.if-not-d.false, c.if-d-ne2.false)))
+branches-requires c = record { part = c.requires; statements = (sym c.is_statement.ensures ∙ not-false _ c.if-not-is_statement.false-raw, sym c.is_statement-2.ensures ∙ not-false _ c.if-not-is_statement-2.false-raw); given = (not-false _ c.if-not-d.false, c.if-d-ne2.false) }
 
 pub returns : goal.returns
 returns c = rw (← c.ref_of-r.ensures, ← c.ref_of-q.ensures) c.branches.ensures

@@ -4,4 +4,4 @@ use borrow.Author.Rules.{rules}
 use Rattle.fit_frames.proofs.statements.branches.Goals as goal
 
 pub returns : goal.returns
-returns c = branch_law c.requires.1.1.0 c.requires.1.1.1 c.requires.1.0.0 c.requires.1.0.1 (rw (c.through-p.ensures.0, c.through-o.ensures.0)) (c.bare-down.ensures ∙ rw (c.meet.ensures, c.through-p.ensures.1, c.through-o.ensures.1, c.returning-ends.ensures, c.returning.ensures))
+returns c = branch_law c.requires.given.0 c.requires.given.1 c.requires.statements.0 c.requires.statements.1 (rw (c.through-p.ensures.0, c.through-o.ensures.0)) (c.bare-down.ensures ∙ rw (c.meet.ensures, c.through-p.ensures.1, c.through-o.ensures.1, c.returning-ends.ensures, c.returning.ensures))

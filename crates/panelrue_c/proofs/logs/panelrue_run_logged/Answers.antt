@@ -4,14 +4,12 @@ use borrow.Author.Rules.{rules}
 use Rattle.panelrue_c.proofs.logs.panelrue_run_logged.Goals as goal
 
 pub pack-requires : goal.pack-requires
-pack-requires c = rw c.in-Refused.is at c.run_logged.ensures.1.0
+pack-requires c = rw c.in-Refused.is at c.run_logged.ensures.small
 
 pub returns-in-Stopped : goal.returns-in-Stopped
 unfolding log_number
-returns-in-Stopped c = let e = sym c.run_logged.ensures.0 ∙ c.in-Stopped.is in
-    (rw e, (c.run_logged.ensures.1.1.0, (c.run_logged.ensures.1.1.1, rw e c.tell_log.ensures)))
+returns-in-Stopped c = let e = sym c.run_logged.ensures.answer ∙ c.in-Stopped.is in record { number = rw e; memory = c.run_logged.ensures.memory; log = c.run_logged.ensures.log; told = rw e c.tell_log.ensures }
 
 pub returns-in-Refused : goal.returns-in-Refused
 unfolding log_number log_words
-returns-in-Refused c = let e = sym c.run_logged.ensures.0 ∙ c.in-Refused.is in
-    (rw e c.pack.ensures, (c.run_logged.ensures.1.1.0, (c.run_logged.ensures.1.1.1, rw e)))
+returns-in-Refused c = let e = sym c.run_logged.ensures.answer ∙ c.in-Refused.is in record { number = rw e c.pack.ensures; memory = c.run_logged.ensures.memory; log = c.run_logged.ensures.log; told = rw e }

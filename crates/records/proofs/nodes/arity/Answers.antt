@@ -1,6 +1,7 @@
 use Rattle.records.proofs.Arities.{arity_high, arity_low, arity_one}
 use Rattle.records.specs.Children.{arity_of, arities}
 use borrow.Author.Rules.{rules}
+use native.Mathlib.Omega.{arith}
 use Rattle.records.proofs.nodes.arity.Goals as goal
 
 pub returns-in-3 : goal.returns-in-3
@@ -36,10 +37,10 @@ unfolding arity_of arities
 returns-in-11 c = (rw c.in-11.is, search rules)
 
 pub returns-in-12-to-14 : goal.returns-in-12-to-14
-returns-in-12-to-14 c = (arity_one _ _ c.if-kind-lt7.false c.if-kind-lt15.true c.in_default-1.rest.0.0.0.0.1 c.in_default-1.rest.0.0.0.1 c.in_default-1.rest.0.0.1 c.in_default-1.rest.0.1 c.in_default-1.rest.1, search rules)
+returns-in-12-to-14 c = (arity_one _ _ (omega arith) (omega arith) (omega arith) (omega arith) (omega arith) (omega arith) (omega arith), search rules)
 
 pub returns-in_default : goal.returns-in_default
-returns-in_default c = (arity_low _ _ (search rules) c.in_default-1.rest.0.0.0.0.0.0.0.1 c.in_default-1.rest.0.0.0.0.0.0.1 c.in_default-1.rest.0.0.0.0.0.1 c.in_default-1.rest.0.0.0.0.1 c.in_default-1.rest.0.0.0.1 c.in_default-1.rest.0.0.1 c.in_default-1.rest.0.1 c.in_default-1.rest.1, search rules)
+returns-in_default c = (arity_low _ _ (omega arith) (omega arith) (omega arith) (omega arith) (omega arith) (omega arith) (omega arith) (omega arith) (omega arith), search rules)
 
 pub returns-in_default-2 : goal.returns-in_default-2
 returns-in_default-2 c = (arity_high _ _ (search rules), search rules)
