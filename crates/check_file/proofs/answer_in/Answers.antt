@@ -54,4 +54,4 @@ unfolding answers fails
 returns-in-14 c = record { exact = rw c.in-14.is c.not_returning.ensures; small = placed_unless _ _ _ c.not_returning.ensures (search rules) }
 
 pub returns-in_default : goal.returns-in_default
-returns-in_default c = record { exact = past_fourteen _ _ _ _ _ (search rules) (omega arith) (omega arith) (omega arith) (omega arith) (omega arith) (omega arith) (omega arith) (omega arith); small = placed_none _ }
+returns-in_default c = record { exact = past_fourteen _ _ _ _ _ (search rules) c.in_default.in_default-own.rest.0.0.0.0.0.0.0.1 c.in_default.in_default-own.rest.0.0.0.0.0.0.1 c.in_default.in_default-own.rest.0.0.0.0.0.1 c.in_default.in_default-own.rest.0.0.0.0.1 c.in_default.in_default-own.rest.0.0.0.1 c.in_default.in_default-own.rest.0.0.1 c.in_default.in_default-own.rest.0.1 c.in_default.in_default-own.rest.1; small = placed_none _ }

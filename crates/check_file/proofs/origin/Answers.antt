@@ -1,6 +1,5 @@
 use borrow.Author.Tests.{ne_eqb}
 use borrow.Author.Rules.{rules}
-use native.Mathlib.Omega.{arith}
 use Rattle.check_file.proofs.origin.Goals as goal
 
 pub returns-in-10 : goal.returns-in-10
@@ -10,4 +9,4 @@ pub returns-in-14 : goal.returns-in-14
 returns-in-14 c = rw c.in-14.is
 
 pub returns-in_default : goal.returns-in_default
-returns-in_default c = rw (ne_eqb _ 10 (omega arith), ne_eqb _ 14 (omega arith))
+returns-in_default c = rw (ne_eqb _ 10 c.in_default.in_default-own.rest.0.1, ne_eqb _ 14 c.in_default.in_default-own.rest.1)

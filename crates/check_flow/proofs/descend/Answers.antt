@@ -30,7 +30,7 @@ pub overflow_sub-b-in-11 : goal.overflow_sub-b-in-11
 overflow_sub-b-in-11 c = above c.requires.0 c.requires.2 11 (sym c.kind_at-kind.ensures ∙ c.in-11.is) refl
 
 pub overflow_sub-i-in-12-to-14 : goal.overflow_sub-i-in-12-to-14
-overflow_sub-i-in-12-to-14 c = above c.requires.0 c.requires.2 _ (sym c.kind_at-kind.ensures) (statement_within _ (omega arith) (omega arith))
+overflow_sub-i-in-12-to-14 c = above c.requires.0 c.requires.2 _ (sym c.kind_at-kind.ensures) (statement_within _ c.in-12-to-14.if-kind-lt7-own.false c.in-12-to-14.if-kind-lt15-own.true)
 
 pub returns-in-7 : goal.returns-in-7
 returns-in-7 c = (seq_lacks c.requires.0 c.requires.2 _ c.requires.1 (sym c.kind_at-kind.ensures ∙ c.in-7.is) c.prior-a.ensures c.row_through-first.ensures (c.into_either.ensures.0 _), c.into_either.ensures.1 _ (omega (arith, c.prior-a.ensures, above c.requires.0 c.requires.2 7 (sym c.kind_at-kind.ensures ∙ c.in-7.is) refl)) (omega (arith, above c.requires.0 c.requires.2 7 (sym c.kind_at-kind.ensures ∙ c.in-7.is) refl)))
@@ -48,7 +48,7 @@ pub returns-in-11 : goal.returns-in-11
 returns-in-11 c = (while_lacks c.requires.0 c.requires.2 _ (sym c.kind_at-kind.ensures ∙ c.in-11.is) c.prior-in-11.ensures c.first_missing-lacking-in-11.ensures (c.after_condition-in-11.ensures.0 _ ∙ ap (or_else _) (c.into-in-11.ensures.0 _)), c.after_condition-in-11.ensures.1 _ (c.into-in-11.ensures.1 _ (omega (arith, above c.requires.0 c.requires.2 11 (sym c.kind_at-kind.ensures ∙ c.in-11.is) refl))))
 
 pub returns-in-12-to-14 : goal.returns-in-12-to-14
-returns-in-12-to-14 c = (expression_lacks c.requires.0 c.requires.2 _ _ (sym c.kind_at-kind.ensures) (from_twelve _ (omega arith) (omega arith) (omega arith) (omega arith) (omega arith) (omega arith)) (search (rules, arith)) (c.ends-in-12-to-14.ensures.0 _ ∙ c.first_missing-in-12-to-14.ensures), c.ends-in-12-to-14.ensures.1 _)
+returns-in-12-to-14 c = (expression_lacks c.requires.0 c.requires.2 _ _ (sym c.kind_at-kind.ensures) (from_twelve _ c.in-12-to-14.if-kind-lt7-own.false c.in-12-to-14.in_default-own.rest.0.0.0.0.1 c.in-12-to-14.in_default-own.rest.0.0.0.1 c.in-12-to-14.in_default-own.rest.0.0.1 c.in-12-to-14.in_default-own.rest.0.1 c.in-12-to-14.in_default-own.rest.1) (search (rules, arith)) (c.ends-in-12-to-14.ensures.0 _ ∙ c.first_missing-in-12-to-14.ensures), c.ends-in-12-to-14.ensures.1 _)
 
 pub returns-in_default : goal.returns-in_default
 returns-in_default c = (rest_lacks c.requires.0 c.requires.2 _ (rw (← c.kind_at-kind.ensures) (statement_outside _ (⊎_elim (λ w. inl w.taken) (λ w. inr w.1.left) c.in_default.branch))) (c.ends-in_default.ensures.0 _), c.ends-in_default.ensures.1 _)

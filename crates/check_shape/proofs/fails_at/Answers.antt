@@ -1,7 +1,6 @@
 use borrow.Author.Tests.{ne_eqb}
 use borrow.Author.Rules.{rules}
 use Rattle.check_shape.specs.Failing.{fails}
-use native.Mathlib.Omega.{arith}
 use Rattle.check_shape.proofs.fails_at.Goals as goal
 
 pub returns-in-7 : goal.returns-in-7
@@ -10,4 +9,4 @@ returns-in-7 c = rw (c.in-7.is, c.node_ok.ensures)
 
 pub returns-in_default : goal.returns-in_default
 unfolding fails
-returns-in_default c = rw (ne_eqb _ _ (omega arith), c.size_ok.ensures)
+returns-in_default c = rw (ne_eqb _ _ c.in_default.in_default-own.rest.1, c.size_ok.ensures)

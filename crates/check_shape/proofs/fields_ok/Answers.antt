@@ -1,7 +1,6 @@
 use borrow.Author.Rules.{rules}
 use Rattle.spec_language.specs.Nodes.{fields, fields_ok}
 use Rattle.check_shape.proofs.Fields.{past_five, fields_rest, fields_high}
-use native.Mathlib.Omega.{arith}
 use Rattle.check_shape.proofs.fields_ok.Goals as goal
 
 pub returns-in-0 : goal.returns-in-0
@@ -37,7 +36,7 @@ unfolding fields_ok fields
 returns-in-9 c = rw (c.in-9.is, c.wide-v.ensures.0, c.vars_of.ensures, c.wide-p.ensures.0, c.params_of.ensures)
 
 pub returns-in-6-to-15 : goal.returns-in-6-to-15
-returns-in-6-to-15 c = fields_rest _ _ _ _ _ (past_five _ (omega arith) (omega arith) (omega arith) (omega arith) (omega arith) (omega arith)) (omega arith) (omega arith) (omega arith)
+returns-in-6-to-15 c = fields_rest _ _ _ _ _ (past_five _ c.in-6-to-15.in_default-own.rest.0.0.0.0.0.0.0.1 c.in-6-to-15.in_default-own.rest.0.0.0.0.0.0.1 c.in-6-to-15.in_default-own.rest.0.0.0.0.0.1 c.in-6-to-15.in_default-own.rest.0.0.0.0.1 c.in-6-to-15.in_default-own.rest.0.0.0.1 c.in-6-to-15.in_default-own.rest.0.0.1) c.in-6-to-15.if-kind-lt16-own.true c.in-6-to-15.in_default-own.rest.0.1 c.in-6-to-15.in_default-own.rest.1
 
 pub returns-in_default : goal.returns-in_default
-returns-in_default c = fields_high _ _ _ _ _ (omega arith)
+returns-in_default c = fields_high _ _ _ _ _ c.in_default.if-kind-lt16-own.false

@@ -5,4 +5,4 @@ use borrow.Author.Rules.{rules}
 use Rattle.check_summary.proofs.row_through.Goals as goal
 
 pub returns : goal.returns
-returns c = λ s h. goes_by _ _ (row_sums _ _ c.row_at-row.ensures.? h) c.is_within-held.ensures refl (c.union.ensures ∙ rw c.minus.ensures)
+returns c = λ s h. goes_by _ _ (row_sums _ _ (c.row_at-row.ensures.flags, c.row_at-row.ensures.sets) h) c.is_within-held.ensures refl (c.union.ensures ∙ rw c.minus.ensures)

@@ -3,7 +3,6 @@ use borrow.Author.Rules.{rules}
 use Rattle.spec_language.specs.Types.{types_of, type_at}
 use Rattle.spec_language.specs.Scopes.{uses_variable}
 use Rattle.check_types.proofs.TypeTables.{type_rest, laid_at, var_known}
-use native.Mathlib.Omega.{arith}
 use Rattle.check_types.proofs.type_of.Goals as goal
 
 pub var_type-requires : goal.var_type-requires
@@ -42,4 +41,4 @@ unfolding type_at types_of
 returns-in-15 c = rw (sym c.kind_at-kind.ensures ∙ c.in-15.is)
 
 pub returns-in_default : goal.returns-in_default
-returns-in_default c = type_rest _ _ _ _ _ _ (sym c.kind_at-kind.ensures) (omega arith) (omega arith) (omega arith) (omega arith) (omega arith) (omega arith) (omega arith)
+returns-in_default c = type_rest _ _ _ _ _ _ (sym c.kind_at-kind.ensures) c.in_default.in_default-own.rest.0.0.0.0.0.0.1 c.in_default.in_default-own.rest.0.0.0.0.0.1 c.in_default.in_default-own.rest.0.0.0.0.1 c.in_default.in_default-own.rest.0.0.0.1 c.in_default.in_default-own.rest.0.0.1 c.in_default.in_default-own.rest.0.1 c.in_default.in_default-own.rest.1

@@ -3,7 +3,6 @@ use borrow.Author.Rules.{rules}
 use Rattle.spec_language.specs.Types.{wants_of, want_at}
 use Rattle.spec_language.specs.Scopes.{uses_variable}
 use Rattle.check_types.proofs.TypeTables.{want_rest, laid_at, var_known}
-use native.Mathlib.Omega.{arith}
 use Rattle.check_types.proofs.want_of.Goals as goal
 
 pub param_type-requires : goal.param_type-requires
@@ -49,4 +48,4 @@ unfolding want_at wants_of
 returns-in-13 c = rw (sym c.kind_at-kind.ensures ∙ c.in-13.is)
 
 pub returns-in_default : goal.returns-in_default
-returns-in_default c = want_rest _ _ _ _ _ _ _ (sym c.kind_at-kind.ensures) (omega arith) (omega arith) (omega arith) (omega arith) (omega arith) (omega arith) (omega arith) (omega arith)
+returns-in_default c = want_rest _ _ _ _ _ _ _ (sym c.kind_at-kind.ensures) c.in_default.in_default-own.rest.0.0.0.0.0.0.0.1 c.in_default.in_default-own.rest.0.0.0.0.0.0.1 c.in_default.in_default-own.rest.0.0.0.0.0.1 c.in_default.in_default-own.rest.0.0.0.0.1 c.in_default.in_default-own.rest.0.0.0.1 c.in_default.in_default-own.rest.0.0.1 c.in_default.in_default-own.rest.0.1 c.in_default.in_default-own.rest.1

@@ -1,7 +1,6 @@
 use mathlib.Core.Path.{sym, ◌∙◌}
 use borrow.Author.Rules.{rules}
 use Rattle.desk_ways.proofs.Gaps.{gap_if, gap_while, no_gap_while, gap_none}
-use native.Mathlib.Omega.{arith}
 use Rattle.desk_ways.proofs.gap_at.Goals as goal
 
 pub returns-then-gives_value : goal.returns-then-gives_value
@@ -17,4 +16,4 @@ unfolding last
 returns-else-gives_value c = no_gap_while _ _ _ c.gives_value-in-11.result (sym c.kind_at-kind.ensures ∙ c.in-11.is) (c.gives_value-in-11.ensures ∙ rw c.minus-body.ensures) c.if-gives_value.false
 
 pub returns-in_default : goal.returns-in_default
-returns-in_default c = gap_none _ _ _ (λ e. (omega arith) (c.kind_at-kind.ensures ∙ e)) (λ e. (omega arith) (c.kind_at-kind.ensures ∙ e))
+returns-in_default c = gap_none _ _ _ (λ e. c.in_default.in_default-own.rest.0.1 (c.kind_at-kind.ensures ∙ e)) (λ e. c.in_default.in_default-own.rest.1 (c.kind_at-kind.ensures ∙ e))

@@ -21,7 +21,7 @@ returns-in-Nop c = nop_returns c.requires.0 c.in-Nop.is
 
 pub returns-in-Node : goal.returns-in-Node
 returns-in-Node c = let e = c.in-Node.is in
-    sym (row_sums _ _ c.row_at.ensures.? (statement_row c.requires.0 c.requires.1 _ (node_within c.requires.0 e c.requires.2) (node_is c.requires.0 e ∙ c.requires.2))).returning ∙ node_returns c.requires.0 e
+    sym (row_sums _ _ (c.row_at.ensures.flags, c.row_at.ensures.sets) (statement_row c.requires.0 c.requires.1 _ (node_within c.requires.0 e c.requires.2) (node_is c.requires.0 e ∙ c.requires.2))).returning ∙ node_returns c.requires.0 e
 
 pub returns-in-IfOf : goal.returns-in-IfOf
 returns-in-IfOf c = if_returning c.requires.0 c.in-IfOf.is c.requires.2
@@ -29,4 +29,4 @@ returns-in-IfOf c = if_returning c.requires.0 c.in-IfOf.is c.requires.2
 pub returns-in-SeqOf : goal.returns-in-SeqOf
 returns-in-SeqOf c = let e = c.in-SeqOf.is in
     let k = seq_within c.requires.0 e c.requires.2 in
-    sym (row_sums _ _ c.row_at-in-SeqOf.ensures.? (body_row c.requires.0 c.requires.1 k.0 k.1)).returning ∙ seq_returning c.requires.0 e c.requires.2
+    sym (row_sums _ _ (c.row_at-in-SeqOf.ensures.flags, c.row_at-in-SeqOf.ensures.sets) (body_row c.requires.0 c.requires.1 k.0 k.1)).returning ∙ seq_returning c.requires.0 e c.requires.2

@@ -4,7 +4,6 @@ use Rattle.fit_frames.proofs.Forms.{frame_in_lem, frame_else}
 use Rattle.fit_frames.proofs.Steps.{check_law, discard_law}
 use Rattle.fit_frames.proofs.Files.{record_in_lem}
 use borrow.Author.Rules.{rules}
-use native.Mathlib.Omega.{arith}
 use Rattle.fit_frames.proofs.frame_step.Goals as goal
 
 pub leave_step-requires : goal.leave_step-requires
@@ -43,4 +42,4 @@ unfolding frames
 returns-in-8 c = let a = c.args in rw (frame_in_lem a.m.now a.i 8 (sym c.frame_word-kind.ensures ∙ c.in-8.is)) (check_law refl c.taken.ensures)
 
 pub returns-in_default : goal.returns-in_default
-returns-in_default c = let a = c.args in let r = (omega arith) in rw (frame_else a.m.now a.i c.frame_word-kind.result (sym c.frame_word-kind.ensures) r.0.0.0.0.0.0.0.1 r.0.0.0.0.0.0.1 r.0.0.0.0.0.1 r.0.0.0.0.1 r.0.0.0.1 r.0.0.1 r.0.1 r.1) (discard_law refl c.taken-in_default.ensures)
+returns-in_default c = let a = c.args in let r = c.in_default.in_default-own.rest in rw (frame_else a.m.now a.i c.frame_word-kind.result (sym c.frame_word-kind.ensures) r.0.0.0.0.0.0.0.1 r.0.0.0.0.0.0.1 r.0.0.0.0.0.1 r.0.0.0.0.1 r.0.0.0.1 r.0.0.1 r.0.1 r.1) (discard_law refl c.taken-in_default.ensures)

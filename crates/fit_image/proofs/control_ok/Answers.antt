@@ -1,7 +1,6 @@
 use Rattle.fit_image.specs.BlockTests.{control_ok}
 use Rattle.fit_image.proofs.NoSuchTags.{no_form}
 use mathlib.Core.Path.{sym}
-use native.Mathlib.Omega.{arith}
 use Rattle.fit_image.proofs.control_ok.Goals as goal
 
 pub returns-in-1 : goal.returns-in-1
@@ -25,4 +24,4 @@ unfolding control_ok
 returns-in-5 c = rw c.in-5.is
 
 pub returns-in_default : goal.returns-in_default
-returns-in_default c = sym (no_form _ _ (omega arith) (omega arith) (omega arith) (omega arith) (omega arith))
+returns-in_default c = sym (no_form _ _ c.in_default.in_default-own.rest.0.0.0.0.1 c.in_default.in_default-own.rest.0.0.0.1 c.in_default.in_default-own.rest.0.0.1 c.in_default.in_default-own.rest.0.1 c.in_default.in_default-own.rest.1)

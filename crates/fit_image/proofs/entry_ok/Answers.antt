@@ -1,7 +1,6 @@
 use Rattle.fit_image.specs.MemoryTest.{entry_ok}
 use Rattle.fit_image.proofs.NoSuchTags.{not_final}
 use mathlib.Core.Path.{sym}
-use native.Mathlib.Omega.{arith}
 use Rattle.fit_image.proofs.entry_ok.Goals as goal
 
 pub returns-in-4 : goal.returns-in-4
@@ -17,4 +16,4 @@ unfolding entry_ok
 returns-in-6 c = rw c.in-6.is
 
 pub returns-in_default : goal.returns-in_default
-returns-in_default c = sym (not_final _ _ (omega arith) (omega arith) (omega arith))
+returns-in_default c = sym (not_final _ _ c.in_default.in_default-own.rest.0.0.1 c.in_default.in_default-own.rest.0.1 c.in_default.in_default-own.rest.1)

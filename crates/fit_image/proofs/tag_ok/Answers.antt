@@ -2,7 +2,6 @@ use Rattle.fit_image.specs.MemoryTest.{tag_ok}
 use Rattle.fit_image.proofs.NoSuchTags.{no_tag}
 use mathlib.Core.Path.{sym}
 use borrow.Author.Rules.{rules}
-use native.Mathlib.Omega.{arith}
 use Rattle.fit_image.proofs.tag_ok.Goals as goal
 
 pub returns-in-1 : goal.returns-in-1
@@ -34,4 +33,4 @@ unfolding tag_ok
 returns-in-9 c = rw c.in-9.is
 
 pub returns-in_default : goal.returns-in_default
-returns-in_default c = sym (no_tag _ _ _ _ _ (omega arith) (omega arith) (omega arith) (omega arith) (omega arith) (omega arith) (omega arith))
+returns-in_default c = sym (no_tag _ _ _ _ _ c.in_default.in_default-own.rest.0.0.0.0.0.0.1 c.in_default.in_default-own.rest.0.0.0.0.0.1 c.in_default.in_default-own.rest.0.0.0.0.1 c.in_default.in_default-own.rest.0.0.0.1 c.in_default.in_default-own.rest.0.0.1 c.in_default.in_default-own.rest.0.1 c.in_default.in_default-own.rest.1)

@@ -1,7 +1,6 @@
 use Rattle.fit_image.specs.BlockTests.{value_ok}
 use Rattle.fit_image.proofs.NoSuchTags.{no_type}
 use mathlib.Core.Path.{sym}
-use native.Mathlib.Omega.{arith}
 use Rattle.fit_image.proofs.value_ok.Goals as goal
 
 pub returns-in-0 : goal.returns-in-0
@@ -17,4 +16,4 @@ unfolding value_ok
 returns-in-2 c = rw c.in-2.is
 
 pub returns-in_default : goal.returns-in_default
-returns-in_default c = sym (no_type _ _ (omega arith) (omega arith) (omega arith))
+returns-in_default c = sym (no_type _ _ c.in_default.in_default-own.rest.0.0.1 c.in_default.in_default-own.rest.0.1 c.in_default.in_default-own.rest.1)

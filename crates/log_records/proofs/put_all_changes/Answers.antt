@@ -17,4 +17,4 @@ pub put_changes-requires : goal.put_changes-requires
 put_changes-requires c = second_room c.requires.0 c.args.log.now c.args.at c.put_changes-next.ensures.words c.put_changes-next.ensures.log c.put_changes-next.ensures.end c.requires.1
 
 pub returns : goal.returns
-returns c = both_put c.requires.0 c.args.log.now c.args.at c.put_changes-next.ensures.words c.put_changes.ensures.words c.put_changes-next.ensures.log c.put_changes-next.ensures.end c.put_changes.ensures.log c.put_changes.ensures.end
+returns c = record { end = (both_put c.requires.0 c.args.log.now c.args.at c.put_changes-next.ensures.words c.put_changes.ensures.words c.put_changes-next.ensures.log c.put_changes-next.ensures.end c.put_changes.ensures.log c.put_changes.ensures.end).0; log = (both_put c.requires.0 c.args.log.now c.args.at c.put_changes-next.ensures.words c.put_changes.ensures.words c.put_changes-next.ensures.log c.put_changes-next.ensures.end c.put_changes.ensures.log c.put_changes.ensures.end).1.0; words = (both_put c.requires.0 c.args.log.now c.args.at c.put_changes-next.ensures.words c.put_changes.ensures.words c.put_changes-next.ensures.log c.put_changes-next.ensures.end c.put_changes.ensures.log c.put_changes.ensures.end).1.1 }

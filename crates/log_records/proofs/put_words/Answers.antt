@@ -11,4 +11,4 @@ pub loop-i-preserved : goal.loop-i-preserved
 loop-i-preserved c = lay_one c.loop-i.invariant c.loop-i-test.true c.requires.0 _ _ c.put_u32.ensures refl
 
 pub returns : goal.returns
-returns c = lay_all c.loop-i.invariant c.loop-i-test.false c.requires.0
+returns c = record { log = (lay_all c.loop-i.invariant c.loop-i-test.false c.requires.0).0; words = (lay_all c.loop-i.invariant c.loop-i-test.false c.requires.0).1 }

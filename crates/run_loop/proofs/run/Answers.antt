@@ -2,7 +2,6 @@ use mir.Syntax.{w32}
 use mir.ValLaws.{to_z-of_z}
 use Rattle.run_loop.proofs.Tags.{at_main, at_running, at_returned, at_value, at_arith, at_abort, begins, proceeds}
 use borrow.Author.Rules.{rules}
-use native.Mathlib.Omega.{arith}
 use Rattle.run_loop.proofs.run.Goals as goal
 
 pub begin-requires : goal.begin-requires
@@ -27,4 +26,4 @@ pub returns-in-5 : goal.returns-in-5
 returns-in-5 c s R e fit = at_arith c.args.file.now c.args.m.now c.requires.0.passed _ R s e c.in-5.is
 
 pub returns-in_default : goal.returns-in_default
-returns-in_default c s R e fit = let r = (omega arith) in at_abort c.args.file.now c.args.m.now c.requires.0.passed _ R s e fit r.0.0.0.0.1 r.0.0.0.1 r.0.0.1 r.0.1 r.1
+returns-in_default c s R e fit = let r = c.in_default.in_default-own.rest in at_abort c.args.file.now c.args.m.now c.requires.0.passed _ R s e fit r.0.0.0.0.1 r.0.0.0.1 r.0.0.1 r.0.1 r.1

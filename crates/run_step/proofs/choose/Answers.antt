@@ -4,7 +4,7 @@ use borrow.Author.Rules.{rules}
 use Rattle.run_step.proofs.choose.Goals as goal
 
 pub unreachable-requires : goal.unreachable-requires
-unreachable-requires c = truth_only c.args.v c.requires.2 c.in_default.keys2
+unreachable-requires c = truth_only c.args.v c.requires.2 c.in_default.in_default-own.keys2
 
 pub returns-then-truth : goal.returns-then-truth
 unfolding value_is

@@ -26,7 +26,7 @@ overflow_sub-last c = c.requires.2.child (rw (arity_and _ _ (sym c.kind_at-kind.
 pub unreachable-requires : goal.unreachable-requires
 unreachable-requires c = let q = c.requires in
     let k = c.kind_at-kind.ensures in
-    none_evaluated _ (omega arith) (omega arith) (omega arith) (omega arith) (rw k q.4) (rw k q.3)
+    none_evaluated _ c.in_default.in_default-own.rest.0.0.0.1 c.in_default.in_default-own.rest.0.0.1 c.in_default.in_default-own.rest.0.1 c.in_default.in_default-own.rest.1 (rw k q.4) (rw k q.3)
 
 pub returns-in-2 : goal.returns-in-2
 returns-in-2 c α f η K A R e t pass part fit = let k = sym c.kind_at-kind.ensures ∙ c.in-2.is in

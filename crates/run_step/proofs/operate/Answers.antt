@@ -11,11 +11,11 @@ use borrow.Author.Rules.{rules}
 use Rattle.run_step.proofs.operate.Goals as goal
 
 pub unreachable-requires : goal.unreachable-requires
-unreachable-requires c = int_only c.args.v c.requires.ints.0 c.in_default.keys2
+unreachable-requires c = int_only c.args.v c.requires.ints.0 c.in_default.in_default-own.keys2
 
 pub unreachable-requires-in_default-slot_value : goal.unreachable-requires-in_default-slot_value
 unfolding slot_at
-unreachable-requires-in_default-slot_value c = int_only c.slot_value.result (int_words _ _ _ c.slot_value.ensures c.requires.ints.1) c.in_default-slot_value.keys2
+unreachable-requires-in_default-slot_value c = int_only c.slot_value.result (int_words _ _ _ c.slot_value.ensures c.requires.ints.1) c.in_default-slot_value.in_default-slot_value-own.keys2
 
 pub returns-in-Int-apply : goal.returns-in-Int-apply
 unfolding slot_at value_is control_is

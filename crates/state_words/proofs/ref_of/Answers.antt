@@ -19,4 +19,4 @@ returns-in-1 c = rw (ref_if c.args.word (omega arith) c.in-1.is)
 
 pub returns-in_default : goal.returns-in_default
 unfolding ref_is
-returns-in_default c = rw (ref_seq c.args.word (omega arith) (omega arith) (omega arith))
+returns-in_default c = rw (ref_seq c.args.word (omega arith) c.in_default.in_default-own.rest.0.1 c.in_default.in_default-own.rest.1)

@@ -1,7 +1,6 @@
 use borrow.Author.Tests.{ne_eqb}
 use Rattle.spec_image.specs.Decode.{value_of}
 use Rattle.state_words.specs.Meaning.{value_is}
-use native.Mathlib.Omega.{arith}
 use Rattle.state_words.proofs.value_of.Goals as goal
 
 pub returns-in-0 : goal.returns-in-0
@@ -14,4 +13,4 @@ returns-in-1 c = rw c.in-1.is
 
 pub returns-in_default : goal.returns-in_default
 unfolding value_is value_of
-returns-in_default c = rw (ne_eqb _ 0 (omega arith), ne_eqb _ 1 (omega arith))
+returns-in_default c = rw (ne_eqb _ 0 c.in_default.in_default-own.rest.0.1, ne_eqb _ 1 c.in_default.in_default-own.rest.1)

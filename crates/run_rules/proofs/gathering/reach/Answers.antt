@@ -2,7 +2,6 @@ use mathlib.Core.Path.{sym, ◌∙◌}
 use Rattle.state_words.specs.Meaning.{control_is, value_is}
 use Rattle.run_rules.proofs.Looks.{look_int, look_bool, look_nothing, reach_other}
 use borrow.Author.Rules.{rules}
-use native.Mathlib.Omega.{arith}
 use Rattle.run_rules.proofs.gathering.reach.Goals as goal
 
 pub returns-in-0 : goal.returns-in-0
@@ -19,4 +18,4 @@ returns-in-15 c = rw (look_nothing _ _ (sym c.kind_at-kind.ensures ∙ c.in-15.i
 
 pub returns-in_default : goal.returns-in_default
 unfolding control_is value_is
-returns-in_default c = let k = c.kind_at-kind.ensures in let r = (omega arith) in reach_other _ _ (λ e. r.0.0.1 (k ∙ e)) (λ e. r.0.1 (k ∙ e)) (λ e. r.1 (k ∙ e))
+returns-in_default c = let k = c.kind_at-kind.ensures in let r = c.in_default.in_default-own.rest in reach_other _ _ (λ e. r.0.0.1 (k ∙ e)) (λ e. r.0.1 (k ∙ e)) (λ e. r.1 (k ∙ e))

@@ -18,7 +18,7 @@ use borrow.Author.Rules.{rules}
 use Rattle.run_step.proofs.statements.execute_node.Goals as goal
 
 pub store_variable-requires : goal.store_variable-requires
-store_variable-requires c = let q = c.requires.? in (q.0.0, rw c.b_at-in-9.ensures (q.1 (sym c.kind_at-kind.ensures ∙ c.in-9.is)))
+store_variable-requires c = let q = (c.requires.bounds, c.requires.variable) in (q.0.0, rw c.b_at-in-9.ensures (q.1 (sym c.kind_at-kind.ensures ∙ c.in-9.is)))
 
 pub unreachable-requires : goal.unreachable-requires
 unreachable-requires c = let q = c.requires.bounds in

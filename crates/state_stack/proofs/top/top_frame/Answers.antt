@@ -2,7 +2,6 @@ use mathlib.Core.Path.{◌∙◌}
 use Rattle.state_stack.specs.Shows.{Shows}
 use Rattle.state_stack.proofs.Views.{seen, said, is_operator, is_call, last_view}
 use borrow.Author.Rules.{rules}
-use native.Mathlib.Omega.{arith}
 use Rattle.state_stack.proofs.top.top_frame.Goals as goal
 
 pub returns-in-1 : goal.returns-in-1
@@ -40,5 +39,5 @@ returns-in-8 c f η fr K A R e few n = said _ _ fr (seen _ _ f η fr K A R e few
 pub returns-in_default : goal.returns-in_default
 unfolding Shows
 returns-in_default c f η fr K A R e few n = let s = seen _ _ f η fr K A R e few n in
-    let r = (omega arith) in
+    let r = c.in_default.in_default-own.rest in
     last_view fr (λ k. r.0.0.0.0.0.0.0.1 (s.kind ∙ k)) (λ k. r.0.0.0.0.0.0.1 (s.kind ∙ k)) (λ k. r.0.0.0.0.0.1 (s.kind ∙ k)) (λ k. r.0.0.0.0.1 (s.kind ∙ k)) (λ k. r.0.0.0.1 (s.kind ∙ k)) (λ k. r.0.0.1 (s.kind ∙ k)) (λ k. r.0.1 (s.kind ∙ k)) (λ k. r.1 (s.kind ∙ k))
