@@ -145,6 +145,33 @@ def turn_source(text, names):
         i = k
 
 
+# Constructors that stand several in a line, or whose name a library's lemma has too: (words, files).
+CONSTRUCTORS = [
+    ("op-first op-second call-first call-enter", ["spec_machine/specs/Machine.antt"]),
+    (
+        "and-true and-false",
+        [
+            "spec_machine/specs/Machine.antt",
+            "spec_machine/specs/Next.antt",
+            "spec_machine/proofs/History.antt",
+            "spec_machine/proofs/Progress.antt",
+            "spec_machine/proofs/One.antt",
+            "spec_machine/proofs/Keep.antt",
+        ],
+    ),
+]
+
+
+def constructors(root):
+    for words, paths in CONSTRUCTORS:
+        table = {w: snake(w) for w in words.split()}
+        for path in paths:
+            p = os.path.join(root, "crates", path)
+            text = open(p, encoding="utf-8").read()
+            lines = [l if "mathlib.Core.Bool" in l else WORD.sub(lambda m: table.get(m.group(0), m.group(0)), l) for l in text.split("\n")]
+            open(p, "w", encoding="utf-8").write("\n".join(lines))
+
+
 def main(dry):
     root = os.getcwd()
     known = library()
@@ -165,6 +192,8 @@ def main(dry):
         new = turn(p, text, names)
         if not dry and new != text:
             open(p, "w", encoding="utf-8").write(new)
+    if not dry:
+        constructors(root)
     print(f"names: {len(names)}")
 
 

@@ -74,7 +74,7 @@ module _ (s : List ℕ) (r : Stepped) (h : code.Registers) (l m : List ℕ) (R :
         rw i (q g.values (rw i at held) (rw i at describes) d (omega (arith, d, p.1)) (omega (arith, d, p.2)))
 
   pub give_and : (n : ℕ) (t : List ℕ) → t ≡ part_of s f → fr ≡ and n
-      → StepsBy s r l m R (on_truth v (goes Rule.and-true (running (reach_l n (look_at t n)) α f η K A)) (goes Rule.and-false (running (val (truth false)) α f η K A))) → GiveSteps
+      → StepsBy s r l m R (on_truth v (goes Rule.and_true (running (reach_l n (look_at t n)) α f η K A)) (goes Rule.and_false (running (val (truth false)) α f η K A))) → GiveSteps
   unfolding program_of
   give_and n t part e q = rw (e, ← part) q
 

@@ -4,7 +4,7 @@ use mathlib.Core.Logic.{⊎_elim}
 use mathlib.Core.List.{[], ◌∷◌}
 use Prim.Native.Nat.{ℕ}
 use native.Mathlib.Omega.{arith}
-use types.Run.{OneOf}
+use borrow.Enum.Refused.{Among, opened}
 use denote.Enum.Declared.{tag_of}
 use Rattle.spec_machine.specs.Values as values
 use Rattle.spec_image.specs.Decode.{value_of}
@@ -15,15 +15,15 @@ use Rattle.state_words.specs.contracts.Value.{the_type}
 use Rattle.run_step.specs.StepsBy.{IsInt, IsTruth}
 
 -- an int is of no other kind, nor is a bool
-pub int_only : (v : Value) → IsInt v → OneOf (0 ∷ 2 ∷ []) (tag_of the_type v) → ⊥
+pub int_only : (v : Value) → IsInt v → Among (0 ∷ 2 ∷ []) (tag_of the_type v) → ⊥
 int_only Nothing h k = h
-int_only (Int n) h k = ⊎_elim (λ e. omega arith) (λ e. omega arith) k
+int_only (Int n) h k = ⊎_elim (λ e. omega arith) (λ e. omega arith) (opened k)
 int_only (Truth b) h k = h
 
-pub truth_only : (v : Value) → IsTruth v → OneOf (0 ∷ 1 ∷ []) (tag_of the_type v) → ⊥
+pub truth_only : (v : Value) → IsTruth v → Among (0 ∷ 1 ∷ []) (tag_of the_type v) → ⊥
 truth_only Nothing h k = h
 truth_only (Int n) h k = h
-truth_only (Truth b) h k = ⊎_elim (λ e. omega arith) (λ e. omega arith) k
+truth_only (Truth b) h k = ⊎_elim (λ e. omega arith) (λ e. omega arith) (opened k)
 
 -- by what a value stands for
 abbrev tag : values.Value → ℕ

@@ -5,7 +5,7 @@ use Prim.Native.Nat.{ℕ}
 use Rattle.varset.specs.Sets.{Set}
 use Rattle.spec_machine.specs.Values.{type_v}
 use Rattle.spec_machine.specs.Program.{fn, apply, Program}
-use Rattle.spec_machine.specs.Machine.{saved, State, Rule, Event, arguments, quiet, reads, has, lacks, enters, leaves, ends, Step, first, enter, op_value, op_arith, and_first, and-false, and-true, call_none, call_entry, assert_true, assert_false, if_true, if_false, leave_entry}
+use Rattle.spec_machine.specs.Machine.{saved, State, Rule, Event, arguments, quiet, reads, has, lacks, enters, leaves, ends, Step, first, enter, op_value, op_arith, and_first, and_false, and_true, call_none, call_entry, assert_true, assert_false, if_true, if_false, leave_entry}
 use Rattle.spec_machine.specs.Fit.{held, Proper}
 use Rattle.spec_machine.specs.Run.{carry, ReadsHeld, all_held, saved_held}
 use Rattle.spec_machine.proofs.Accepted.{GoodE, Accepted}
@@ -20,8 +20,8 @@ module _ {P : Program} (c : Accepted P) where
   carried (op_value e) o = refl
   carried (op_arith e) o = refl
   carried (and_first e) o = refl
-  carried and-false o = refl
-  carried and-true o = refl
+  carried and_false o = refl
+  carried and_true o = refl
   carried (Step.var e) o = refl
   carried (Step.seq e) o = refl
   carried (Step.nop e) o = refl

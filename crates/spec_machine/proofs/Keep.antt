@@ -12,7 +12,7 @@ use Rattle.spec_language.specs.Flow.{leaves, returns}
 use Rattle.spec_language.proofs.Flows.{Scope, ok_seq, ok_assign, ok_decl, ok_if, ok_return, ok_assert, ok_expr, while_ok, while_leaves}
 use Rattle.spec_machine.specs.Values.{t_bool, Value, nothing, type_v}
 use Rattle.spec_machine.specs.Program.{fn, node, ExprForm, apply, StmtForm, Program, owns, type_l, var_types, type_of_var}
-use Rattle.spec_machine.specs.Machine.{saved, State, Rule, Event, arguments, Step, first, enter, op_value, op_arith, and_first, and-false, and-true, call_none, call_entry, assert_true, assert_false, if_true, if_false, leave_entry}
+use Rattle.spec_machine.specs.Machine.{saved, State, Rule, Event, arguments, Step, first, enter, op_value, op_arith, and_first, and_false, and_true, call_none, call_entry, assert_true, assert_false, if_true, if_false, leave_entry}
 use Rattle.spec_machine.specs.Fit.{owned, held, Takes, comes, Proper}
 use Rattle.spec_machine.proofs.Accepted.{GoodE, GoodS, Accepted}
 use Rattle.spec_machine.proofs.Given.{expression_gives}
@@ -52,8 +52,8 @@ module _ {P : Program} (c : Accepted P) where
       let k : Takes P f t_bool K = rw e at o.frames.2 in
       let r = c.reads_and f m n l (held η) o.frames.0 e o.flows.0 in
       turns_to o n g.0.0 (g.0.1, g.1.0, g.1.1, k) r.0 (r.1, o.flows.1) o.returns
-  keep and-false o = moves o o.frames.3 o.flows.1 o.returns
-  keep (and-true {l}) o = turns_to o l o.frames.1 (rw o.frames.2 o.frames.3) o.flows.0 o.flows.1 o.returns
+  keep and_false o = moves o o.frames.3 o.flows.1 o.returns
+  keep (and_true {l}) o = turns_to o l o.frames.1 (rw o.frames.2 o.frames.3) o.flows.0 o.flows.1 o.returns
   keep (Step.var {m} {x} {f} {η} {K} e) o =
       let k : Takes P f (type_of_var (P.fun f) x) K = rw e at o.frames.2 in
       let r = c.reads_var f m x (held η) o.frames.0 e o.flows.0 in

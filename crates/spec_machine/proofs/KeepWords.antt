@@ -64,8 +64,8 @@ module _ (P : Program) (constants : ConstWords P) where
   words_kept (Step.op_value {o = o} {a = a} {b = b} {v = v} {α = α} e) w = (result_word α P.edition o a b v w.2.0.0 w.0 e, w.1, w.2.1, w.3)
   words_kept (Step.op_arith e) w = tt
   words_kept (Step.and_first {n = n} {f = f} {α = α} e) w = (reach_word α f n, w.1, w.2, w.3)
-  words_kept Step.and-false w = w
-  words_kept (Step.and-true {l = l} {f = f} {α = α}) w = (reach_word α f l, w.1, w.2, w.3)
+  words_kept Step.and_false w = w
+  words_kept (Step.and_true {l = l} {f = f} {α = α}) w = (reach_word α f l, w.1, w.2, w.3)
   words_kept (Step.var {x = x} {η = η} {α = α} e) w = (word_at α η x w.1, w.1, w.2, w.3)
   words_kept (Step.seq e) w = w
   words_kept (Step.nop e) w = w

@@ -7,7 +7,7 @@ use Prim.Native.Nat.{ℕ}
 use lib.ListN.{length}
 use Rattle.spec_machine.specs.Values.{Value, nothing, int, truth, result}
 use Rattle.spec_machine.specs.Program.{op, fn, ExprForm, const, apply, StmtForm, Program}
-use Rattle.spec_machine.specs.Machine.{Frame, gather, and, wait, branch, check, val, eval, exec, State, exception, calling, returned, running, Rule, Event, quiet, reads, has, lacks, enters, leaves, ends, Step, first, enter, op_value, op_arith, and_first, and-false, and-true, call_none, call_entry, assert_true, assert_false, if_true, if_false, leave_entry}
+use Rattle.spec_machine.specs.Machine.{Frame, gather, and, wait, branch, check, val, eval, exec, State, exception, calling, returned, running, Rule, Event, quiet, reads, has, lacks, enters, leaves, ends, Step, first, enter, op_value, op_arith, and_first, and_false, and_true, call_none, call_entry, assert_true, assert_false, if_true, if_false, leave_entry}
 use Rattle.spec_machine.specs.Next.{goes, next}
 
 -- ---- the event of the rule that applies at a state
@@ -92,8 +92,8 @@ goes_on (Step.next {h = fn g}) = (refl, refl)
 goes_on (op_value e) = (rw e, rw e)
 goes_on (op_arith e) = (rw e, rw e)
 goes_on (and_first e) = (rw e, rw e)
-goes_on and-false = (refl, refl)
-goes_on and-true = (refl, refl)
+goes_on and_false = (refl, refl)
+goes_on and_true = (refl, refl)
 goes_on (Step.var e) = (rw e, rw e)
 goes_on (Step.seq e) = (rw e, rw e)
 goes_on (Step.nop e) = (rw e, rw e)

@@ -9,7 +9,7 @@ use native.Mathlib.Omega.{arith}
 use Rattle.spec_language.specs.Flow.{returns}
 use Rattle.spec_machine.specs.Values.{Ty, t_int, t_bool, Value, nothing, int, truth, type_v, result}
 use Rattle.spec_machine.specs.Program.{op, fn, Ref, ExprForm, const, apply, StmtForm, Program}
-use Rattle.spec_machine.specs.Machine.{Frame, gather, and, wait, branch, check, val, eval, exec, Saved, saved, RunEnv, State, exception, calling, returned, running, Rule, Event, Step, first, enter, op_value, op_arith, and_first, and-false, and-true, call_none, call_entry, assert_true, assert_false, if_true, if_false, leave_entry, main_call}
+use Rattle.spec_machine.specs.Machine.{Frame, gather, and, wait, branch, check, val, eval, exec, Saved, saved, RunEnv, State, exception, calling, returned, running, Rule, Event, Step, first, enter, op_value, op_arith, and_first, and_false, and_true, call_none, call_entry, assert_true, assert_false, if_true, if_false, leave_entry, main_call}
 use Rattle.spec_machine.specs.Next.{goes, next}
 use Rattle.spec_machine.specs.Fit.{Running, Proper, Fit}
 use Rattle.spec_machine.specs.Run.{Going}
@@ -65,7 +65,7 @@ module _ {P : Program} (c : Accepted P) (α : RunEnv) (f : ℕ) (η : List Value
   gives_on v (gather (op p) vs [] ∷ K) A o =
       on_ints (λ us u. Applies P (running (val u) α f η (gather (op p) us [] ∷ K) A)) (settles K A p) vs v o.frames.0
   gives_on v (gather (fn g) vs [] ∷ K) A o = by_step enter
-  gives_on v (and l ∷ K) A o = on_truth_lem (λ u. Applies P (running (val u) α f η (and l ∷ K) A)) (by_step and-true) (by_step and-false) v o.frames.0
+  gives_on v (and l ∷ K) A o = on_truth_lem (λ u. Applies P (running (val u) α f η (and l ∷ K) A)) (by_step and_true) (by_step and_false) v o.frames.0
   gives_on v (wait r ∷ K) A o = absurd o.frames
   gives_on v (Frame.store x ∷ K) A o = by_step Step.store
   gives_on v (branch a b ∷ K) A o = on_truth_lem (λ u. Applies P (running (val u) α f η (branch a b ∷ K) A)) (by_step if_true) (by_step if_false) v o.frames.0

@@ -51,9 +51,9 @@ main_call = calling empty_env none
 
 -- the rules of 002 that the machine uses; by kind; by frame
 pub data Rule : Type 0 where
-  op-first op-second op_value op_arith and_first and-false and-true var : Rule
+  op_first op_second op_value op_arith and_first and_false and_true var : Rule
   seq nop assign store decl assert assert_true assert_false if if_true if_false while expr discard : Rule
-  call-first call_next call-enter call_none return leave value : Rule
+  call_first call_next call_enter call_none return leave value : Rule
 
 -- a constant is its own value: reaching it is no step; by kind
 abbrev pub reach_l : ℕ → ExprForm → Control
@@ -68,11 +68,11 @@ reach P f n = reach_l n (P.look f n)
 
 -- operators and calls gather operands alike
 abbrev pub first_name : Operation → Rule
-first_name (op o) = Rule.op-first
-first_name (fn f) = Rule.call-first
+first_name (op o) = Rule.op_first
+first_name (fn f) = Rule.call_first
 
 abbrev pub next_name : Operation → Rule
-next_name (op o) = Rule.op-second
+next_name (op o) = Rule.op_second
 next_name (fn f) = Rule.call_next
 
 -- the variables at entry: the arguments, and nothing in the others
@@ -90,7 +90,7 @@ arguments (some n) = int n ∷ []
 
 abbrev pub entry_name : Option ℕ → Rule
 entry_name none = Rule.call_none
-entry_name (some n) = Rule.call-enter
+entry_name (some n) = Rule.call_enter
 
 -- what a step does to who has a value, beside what it reads
 pub data Event : Type 0 where
@@ -118,10 +118,10 @@ pub data Step (P : Program) : Rule → Event → State → State → Type 0 wher
   and_first : {m n l f : ℕ} {η : List Value} {K : List Frame} {A : List Saved} {α : RunEnv}
       → P.look f m ≡ ExprForm.and n l
       → Step P Rule.and_first quiet (running (eval m) α f η K A) (running (reach P f n) α f η (and l ∷ K) A)
-  and-false : {l f : ℕ} {η : List Value} {K : List Frame} {A : List Saved} {α : RunEnv}
-      → Step P Rule.and-false quiet (running (val (truth false)) α f η (and l ∷ K) A) (running (val (truth false)) α f η K A)
-  and-true : {l f : ℕ} {η : List Value} {K : List Frame} {A : List Saved} {α : RunEnv}
-      → Step P Rule.and-true quiet (running (val (truth true)) α f η (and l ∷ K) A) (running (reach P f l) α f η K A)
+  and_false : {l f : ℕ} {η : List Value} {K : List Frame} {A : List Saved} {α : RunEnv}
+      → Step P Rule.and_false quiet (running (val (truth false)) α f η (and l ∷ K) A) (running (val (truth false)) α f η K A)
+  and_true : {l f : ℕ} {η : List Value} {K : List Frame} {A : List Saved} {α : RunEnv}
+      → Step P Rule.and_true quiet (running (val (truth true)) α f η (and l ∷ K) A) (running (reach P f l) α f η K A)
   var : {m x f : ℕ} {η : List Value} {K : List Frame} {A : List Saved} {α : RunEnv}
       → P.look f m ≡ ExprForm.var x
       → Step P Rule.var (reads x) (running (eval m) α f η K A) (running (val (get_or η x nothing)) α f η K A)
@@ -162,7 +162,7 @@ pub data Step (P : Program) : Rule → Event → State → State → Type 0 wher
   discard : {v : Value} {f : ℕ} {η : List Value} {K : List Frame} {A : List Saved} {α : RunEnv}
       → Step P Rule.discard quiet (running (val v) α f η (Frame.discard ∷ K) A) (running (exec Ref.nop) α f η K A)
   enter : {v : Value} {vs : List Value} {g f : ℕ} {η : List Value} {K : List Frame} {A : List Saved} {α : RunEnv}
-      → Step P Rule.call-enter (enters (length (P.fun g).params)) (running (val v) α f η (gather (fn g) vs [] ∷ K) A) (running (exec (P.fun g).body) α g (entered (P.fun g) (vs ++ (v ∷ []))) [] (saved f η K ∷ A))
+      → Step P Rule.call_enter (enters (length (P.fun g).params)) (running (val v) α f η (gather (fn g) vs [] ∷ K) A) (running (exec (P.fun g).body) α g (entered (P.fun g) (vs ++ (v ∷ []))) [] (saved f η K ∷ A))
   call_none : {m g f : ℕ} {η : List Value} {K : List Frame} {A : List Saved} {α : RunEnv}
       → P.look f m ≡ apply (fn g) []
       → Step P Rule.call_none (enters (length (P.fun g).params)) (running (eval m) α f η K A) (running (exec (P.fun g).body) α g (entered (P.fun g) []) [] (saved f η K ∷ A))

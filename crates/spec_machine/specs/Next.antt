@@ -25,7 +25,7 @@ op_next i o (int a ∷ []) (int b) α f η K A = settle α f η K A (result i o 
 
 abbrev pub finish : Program → Operation → List Value → Value → RunEnv → ℕ → List Value → List Frame → List Saved → Move
 finish P (op o) vs v α f η K A = op_next P.edition o vs v α f η K A
-finish P (fn g) vs v α f η K A = goes Rule.call-enter (running (exec (P.fun g).body) α g (entered (P.fun g) (vs ++ (v ∷ []))) [] (saved f η K ∷ A))
+finish P (fn g) vs v α f η K A = goes Rule.call_enter (running (exec (P.fun g).body) α g (entered (P.fun g) (vs ++ (v ∷ []))) [] (saved f η K ∷ A))
 
 abbrev pub on_truth : Value → Move → Move → Move
 on_truth nothing s t = stuck
@@ -44,7 +44,7 @@ abbrev pub give : Program → Value → RunEnv → ℕ → List Value → List F
 give P v α f η [] A = stuck
 give P v α f η (gather h vs [] ∷ K) A = finish P h vs v α f η K A
 give P v α f η (gather h vs (n ∷ ns) ∷ K) A = goes (next_name h) (running (reach P f n) α f η (gather h (vs ++ (v ∷ [])) ns ∷ K) A)
-give P v α f η (and l ∷ K) A = on_truth v (goes Rule.and-true (running (reach P f l) α f η K A)) (goes Rule.and-false (running (val (truth false)) α f η K A))
+give P v α f η (and l ∷ K) A = on_truth v (goes Rule.and_true (running (reach P f l) α f η K A)) (goes Rule.and_false (running (val (truth false)) α f η K A))
 give P v α f η (wait r ∷ K) A = stuck
 give P v α f η (Frame.store x ∷ K) A = goes Rule.store (running (exec Ref.nop) α f (set η x v) K A)
 give P v α f η (branch a b ∷ K) A = on_truth v (goes Rule.if_true (running (exec a) α f η K A)) (goes Rule.if_false (running (exec b) α f η K A))

@@ -35,7 +35,7 @@ pub slice_bounds-answer_in-end : goal.slice_bounds-answer_in-end
 slice_bounds-answer_in-end c = part_room c.args.file.now c.requires.laid.0 c.function_count-functions.ensures.0 c.loop-f-test.true c.loop-f.invariant.2 c.count_of-n.ensures.0
 
 pub answer_in-requires : goal.answer_in-requires
-answer_in-requires c = record { laid = (asks c.args.file.now c.args.q c.requires.laid.0 c.function_count-functions.ensures.0 c.loop-f-test.true c.loop-f.invariant.2 c.count_of-n.ensures.0 c.requires.laid.2 c.requires.known.0 (λ z. rw c.loop-f.invariant.0 (c.requires.known.1 z))).0; inside = (asks c.args.file.now c.args.q c.requires.laid.0 c.function_count-functions.ensures.0 c.loop-f-test.true c.loop-f.invariant.2 c.count_of-n.ensures.0 c.requires.laid.2 c.requires.known.0 (λ z. rw c.loop-f.invariant.0 (c.requires.known.1 z))).1.0; known = (asks c.args.file.now c.args.q c.requires.laid.0 c.function_count-functions.ensures.0 c.loop-f-test.true c.loop-f.invariant.2 c.count_of-n.ensures.0 c.requires.laid.2 c.requires.known.0 (λ z. rw c.loop-f.invariant.0 (c.requires.known.1 z))).1.1 }
+answer_in-requires c = record { laid = (asks c.args.file.now c.args.q c.requires.laid.0 c.function_count-functions.ensures.0 c.loop-f-test.true c.loop-f.invariant.2 c.count_of-n.ensures.0 {k = length c.loop-f.table} c.requires.laid.2 c.requires.known.0 (λ z. rw c.loop-f.invariant.0 (c.requires.known.1 z))).0; inside = (asks c.args.file.now c.args.q c.requires.laid.0 c.function_count-functions.ensures.0 c.loop-f-test.true c.loop-f.invariant.2 c.count_of-n.ensures.0 {k = length c.loop-f.table} c.requires.laid.2 c.requires.known.0 (λ z. rw c.loop-f.invariant.0 (c.requires.known.1 z))).1.0; known = (asks c.args.file.now c.args.q c.requires.laid.0 c.function_count-functions.ensures.0 c.loop-f-test.true c.loop-f.invariant.2 c.count_of-n.ensures.0 {k = length c.loop-f.table} c.requires.laid.2 c.requires.known.0 (λ z. rw c.loop-f.invariant.0 (c.requires.known.1 z))).1.1 }
 
 pub origin-requires : goal.origin-requires
 origin-requires c = omega (arith, c.requires.laid.0.few, c.function_count-functions.ensures.0)

@@ -8,6 +8,7 @@ use Rattle.spec_language.proofs.KindLists.{statement_within, statement_outside}
 use Rattle.spec_language.proofs.KnownNodes.{named}
 use Rattle.check_flow.proofs.Descending.{from_twelve, above, seq_lacks, assign_lacks, decl_lacks, if_lacks, while_lacks, expression_lacks, rest_lacks}
 use borrow.Author.Rules.{rules}
+use Rattle.check_flow.proofs.descend.Goals.{in_default-via-then-kind-lt7, in_default-via-else-kind-lt7+else-kind-lt15}
 use Rattle.check_flow.proofs.descend.Goals as goal
 
 pub overflow_sub-b : goal.overflow_sub-b
@@ -51,4 +52,4 @@ pub returns-in-12-to-14 : goal.returns-in-12-to-14
 returns-in-12-to-14 c = (expression_lacks c.requires.0 c.requires.2 _ _ (sym c.kind_at-kind.ensures) (from_twelve _ c.in-12-to-14.if-kind-lt7-own.false c.in-12-to-14.in_default-own.rest.0.0.0.0.1 c.in-12-to-14.in_default-own.rest.0.0.0.1 c.in-12-to-14.in_default-own.rest.0.0.1 c.in-12-to-14.in_default-own.rest.0.1 c.in-12-to-14.in_default-own.rest.1) (search (rules, arith)) (c.ends-in-12-to-14.ensures.0 _ ∙ c.first_missing-in-12-to-14.ensures), c.ends-in-12-to-14.ensures.1 _)
 
 pub returns-in_default : goal.returns-in_default
-returns-in_default c = (rest_lacks c.requires.0 c.requires.2 _ (rw (← c.kind_at-kind.ensures) (statement_outside _ (⊎_elim (λ w. inl w.taken) (λ w. inr w.1.left) c.in_default.branch))) (c.ends-in_default.ensures.0 _), c.ends-in_default.ensures.1 _)
+returns-in_default c = (rest_lacks c.requires.0 c.requires.2 _ (rw (← c.kind_at-kind.ensures) (statement_outside c.kind_at-kind.result (elim c.in_default.branch [ in_default-via-then-kind-lt7 w ↦ inl (omega arith) | in_default-via-else-kind-lt7+else-kind-lt15 w ↦ inr (omega arith) ]))) (c.ends-in_default.ensures.0 _), c.ends-in_default.ensures.1 _)

@@ -1,5 +1,6 @@
 use Rattle.check_flow.proofs.Descending.{lacking_within}
 use Rattle.spec_language.specs.Flow.{lacks}
+use Rattle.spec_language.specs.Statements.{statement_at}
 use Rattle.records.specs.Fields.{params_of}
 use Rattle.varset.specs.Sets.{below}
 use Prim.Native.Nat.{◌-◌}

@@ -43,4 +43,4 @@ pub fits-requires : goal.fits-requires
 fits-requires c = (omega (arith, c.requires.0.part.inside, c.requires.0.below), omega (arith, c.loop-j.invariant.1.bound, c.requires.0.part.arguments _ c.requires.0.below c.requires.1))
 
 pub returns : goal.returns
-returns c = λ l. let g = c.guard.ensures l in rw (g.1, c.plain-2.ensures.0, c.plain-2.ensures.1, c.plain-2.ensures.2) (call_judged _ _ _ _ _ _ c.requires.1 c.b_at-callee.ensures c.result_of-found.ensures (omega arith) c.loop-j.invariant.1 g.0 c.fits2.ensures c.empty-2.ensures)
+returns c = λ l. let g = c.guard.ensures l in rw (g.1, c.plain-2.ensures.0, c.plain-2.ensures.1, c.plain-2.ensures.2) (call_judged _ _ _ _ _ _ c.requires.1 c.b_at-callee.ensures c.result_of-found.ensures (omega arith) c.loop-j.invariant.1 g.0 c.fits.ensures c.empty-2.ensures)

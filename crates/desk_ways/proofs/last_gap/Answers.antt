@@ -14,7 +14,7 @@ pub loop-k-init : goal.loop-k-init
 loop-k-init c = (search rules, gap_none_yet _ _ _ _)
 
 pub gap_on_way-requires : goal.gap_on_way-requires
-gap_on_way-requires c = let decls = c.decl_table-decls.ensures in record { inside = search rules; known = c.requires.known; told = (decls _ (search rules), decl_fits _ c.decl_table-decls.result _ _ _ c.requires.inside.0 (search rules) decls refl c.requires.inside.2) }
+gap_on_way-requires c = record { inside = search rules; known = c.requires.known; told = (c.decl_table-decls.ensures _ (search rules), decl_fits _ c.decl_table-decls.result _ _ _ c.requires.inside.0 (search rules) c.decl_table-decls.ensures refl c.requires.inside.2) }
 
 pub loop-k-preserved : goal.loop-k-preserved
 loop-k-preserved c = (search rules, gap_next _ _ _ _ _ _ _ _ c.gap_on_way.ensures c.or_earlier-way.ensures c.loop-k.invariant.1)

@@ -5,4 +5,4 @@ use borrow.Author.Rules.{rules}
 use Rattle.fit_state.proofs.entry_fits.Goals as goal
 
 pub returns : goal.returns
-returns c = λ b e s R q w. rw q (entry_law (program_of b) (accepted_program b e).main-takes s R w)
+returns c = λ b e s R q w. rw q (entry_law (program_of b) (accepted_program b e).main_takes s R w)

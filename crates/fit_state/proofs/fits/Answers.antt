@@ -18,13 +18,13 @@ pub function_count-functions-requires : goal.function_count-functions-requires
 function_count-functions-requires c = let h = (laid _ c.requires.0).heads in omega arith
 
 pub tiny_fits-requires : goal.tiny_fits-requires
-tiny_fits-requires c = let a = c.args in let p = c.requires in record { file = (p.0, p.1, p.2, c.if-m-ne-TAG_RUNNING.false, entry_known (program_of a.file.now) a.m.now p.2 c.if-m-ne-TAG_RUNNING.false (sym (c.entry_fits.ensures a.file.now p.0 p.2.state p.2.rest p.2.held p.2.within) ∙ not-false _ c.if-not-entry_fits.false-raw)); room = search rules }
+tiny_fits-requires c = let a = c.args in record { file = (c.requires.0, c.requires.1, c.requires.2, c.if-m-ne-TAG_RUNNING.false, entry_known (program_of a.file.now) a.m.now c.requires.2 c.if-m-ne-TAG_RUNNING.false (sym (c.entry_fits.ensures a.file.now c.requires.0 c.requires.2.state c.requires.2.rest c.requires.2.held c.requires.2.within) ∙ not-false _ c.if-not-entry_fits.false-raw)); room = search rules }
 
 pub short_fits-requires : goal.short_fits-requires
-short_fits-requires c = let a = c.args in let p = c.requires in record { file = (p.0, p.1, p.2, c.if-m-ne-TAG_RUNNING.false, entry_known (program_of a.file.now) a.m.now p.2 c.if-m-ne-TAG_RUNNING.false (sym (c.entry_fits.ensures a.file.now p.0 p.2.state p.2.rest p.2.held p.2.within) ∙ not-false _ c.if-not-entry_fits.false-raw)); room = search rules }
+short_fits-requires c = let a = c.args in record { file = (c.requires.0, c.requires.1, c.requires.2, c.if-m-ne-TAG_RUNNING.false, entry_known (program_of a.file.now) a.m.now c.requires.2 c.if-m-ne-TAG_RUNNING.false (sym (c.entry_fits.ensures a.file.now c.requires.0 c.requires.2.state c.requires.2.rest c.requires.2.held c.requires.2.within) ∙ not-false _ c.if-not-entry_fits.false-raw)); room = search rules }
 
 pub middle_fits-requires : goal.middle_fits-requires
-middle_fits-requires c = let a = c.args in let p = c.requires in record { file = (p.0, p.1, p.2, c.if-m-ne-TAG_RUNNING.false, entry_known (program_of a.file.now) a.m.now p.2 c.if-m-ne-TAG_RUNNING.false (sym (c.entry_fits.ensures a.file.now p.0 p.2.state p.2.rest p.2.held p.2.within) ∙ not-false _ c.if-not-entry_fits.false-raw)); room = search rules }
+middle_fits-requires c = let a = c.args in record { file = (c.requires.0, c.requires.1, c.requires.2, c.if-m-ne-TAG_RUNNING.false, entry_known (program_of a.file.now) a.m.now c.requires.2 c.if-m-ne-TAG_RUNNING.false (sym (c.entry_fits.ensures a.file.now c.requires.0 c.requires.2.state c.requires.2.rest c.requires.2.held c.requires.2.within) ∙ not-false _ c.if-not-entry_fits.false-raw)); room = search rules }
 
 pub long_fits-requires : goal.long_fits-requires
-long_fits-requires c = let a = c.args in let p = c.requires in (p.0, p.1, p.2, c.if-m-ne-TAG_RUNNING.false, entry_known (program_of a.file.now) a.m.now p.2 c.if-m-ne-TAG_RUNNING.false (sym (c.entry_fits.ensures a.file.now p.0 p.2.state p.2.rest p.2.held p.2.within) ∙ not-false _ c.if-not-entry_fits.false-raw))
+long_fits-requires c = let a = c.args in (c.requires.0, c.requires.1, c.requires.2, c.if-m-ne-TAG_RUNNING.false, entry_known (program_of a.file.now) a.m.now c.requires.2 c.if-m-ne-TAG_RUNNING.false (sym (c.entry_fits.ensures a.file.now c.requires.0 c.requires.2.state c.requires.2.rest c.requires.2.held c.requires.2.within) ∙ not-false _ c.if-not-entry_fits.false-raw))

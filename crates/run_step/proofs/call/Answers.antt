@@ -11,26 +11,24 @@ use borrow.Author.Rules.{rules}
 use Rattle.run_step.proofs.call.Goals as goal
 
 pub enter_none-requires : goal.enter_none-requires
-enter_none-requires c = let p = c.requires in (p.0, p.1, rw c.b_at-g.ensures (p.2.callee p.3))
+enter_none-requires c = (c.requires.0, c.requires.1, rw c.b_at-g.ensures (c.requires.2.callee c.requires.3))
 
 pub returns-then-k-eq0 : goal.returns-then-k-eq0
 returns-then-k-eq0 c α f η K A R e t part p = let a = sym (c.wide-k.ensures.0 ∙ c.a_at.ensures) ∙ c.if-k-eq0.true in
     none_done _ _ _ _ _ R α f η K A _ _ c.requires.3 a c.b_at-g.ensures (c.enter_none.ensures α f η K A R e t (rw c.b_at-g.ensures (p ∙ a)))
 
 pub overflow_sub-i : goal.overflow_sub-i
-overflow_sub-i c = let q = c.requires in let k = pos c.if-k-eq0.false in q.2.child (rw (arity_call _ _ q.3, ← (c.wide-k.ensures.0 ∙ c.a_at.ensures)) k)
+overflow_sub-i c = let k = pos c.if-k-eq0.false in c.requires.2.child (rw (arity_call _ _ c.requires.3, ← (c.wide-k.ensures.0 ∙ c.a_at.ensures)) k)
 
 pub gather-requires : goal.gather-requires
-gather-requires c = let q = c.requires in
-    let k = pos c.if-k-eq0.false in
+gather-requires c = let k = pos c.if-k-eq0.false in
     let w = c.wide-k.ensures.0 ∙ c.a_at.ensures in
-    let i = q.2.inside in
-    let n = q.2.few in
-    (q.0, k, rw w (q.2.arguments q.3), omega (arith, i), omega (arith, n))
+    let i = c.requires.2.inside in
+    let n = c.requires.2.few in
+    (c.requires.0, k, rw w (c.requires.2.arguments c.requires.3), omega (arith, i), omega (arith, n))
 
 pub returns : goal.returns
-returns c α f η K A R e t part p = let q = c.requires in
-    let w = c.wide-k.ensures.0 ∙ c.a_at.ensures in
+returns c α f η K A R e t part p = let w = c.wide-k.ensures.0 ∙ c.a_at.ensures in
     let z = some_walk (size_at c.args.part.now) c.wide-k.result (c.args.i - 1) (pos c.if-k-eq0.false) in
-    gather_done _ _ _ _ _ R α f η K A _ (fn c.b_at-g.result) _ z.first z.rest (look_call _ _ q.3 ∙ rw c.b_at-g.ensures)
-    (arity_call _ _ q.3 ∙ sym w) part z.is (c.gather.ensures _ α f η (fn c.b_at-g.result) z.first z.rest K A R e t (λ x y. waiting_words (fn c.b_at-g.result) x y) z.is)
+    gather_done _ _ _ _ _ R α f η K A _ (fn c.b_at-g.result) _ z.first z.rest (look_call _ _ c.requires.3 ∙ rw c.b_at-g.ensures)
+    (arity_call _ _ c.requires.3 ∙ sym w) part z.is (c.gather.ensures _ α f η (fn c.b_at-g.result) z.first z.rest K A R e t (λ x y. waiting_words (fn c.b_at-g.result) x y) z.is)

@@ -13,7 +13,7 @@ unfolding value_is
 returns-then-h-eq0 c α f η J A R e t = rw c.in-Int.is (depart_main _ _ _ _ _ R α f η J A _ e t c.if-h-eq0.true (λ i k. c.leave_main.ensures _ α f η J R i k))
 
 pub leave-requires : goal.leave-requires
-leave-requires c = let p = (c.requires.bounds, (c.requires.outermost, c.requires.called)) in let k = pos c.if-h-eq0.false in record { bounds = (p.0.0, k, p.0.1); caller = p.1.1 k }
+leave-requires c = let k = pos c.if-h-eq0.false in record { bounds = (c.requires.bounds.0, k, c.requires.bounds.1); caller = c.requires.called k }
 
 pub returns : goal.returns
 returns c α f η J A R e t = depart_caller _ _ _ _ _ R α f η J A _ e t c.if-h-eq0.false (λ g θ L B i k. c.leave.ensures α f η J g θ L B R i k)

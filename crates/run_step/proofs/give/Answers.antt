@@ -125,7 +125,7 @@ unfolding control_is ref_of value_is
 returns-in-And c α f η fr K A R e t fit = let x = over c.args.file.now c.args.starts.now (value_is c.args.v) c.args.h c.args.m.now c.requires.0 in
     let p = x.passed in
     let w = c.top_frame-top.ensures f η fr K A (R α) e (omega (arith, (limited t fit).0, t.callers)) (counted_under t (c.args.h.frames - 1) (omega (arith, t.frames))) in
-    give_and _ _ _ _ _ R α f η fr K A _ p e t fit _ _ (c.requires.1 ∙ ap (part_of c.args.file.now) t.function) (is_and _ _ w _ c.in-And.is) (rw (← c.reach-c.ensures) (c.choose.ensures _ Rule.and-true Rule.and-false α f η fr K A R e t))
+    give_and _ _ _ _ _ R α f η fr K A _ p e t fit _ _ (c.requires.1 ∙ ap (part_of c.args.file.now) t.function) (is_and _ _ w _ c.in-And.is) (rw (← c.reach-c.ensures) (c.choose.ensures _ Rule.and_true Rule.and_false α f η fr K A R e t))
 
 pub returns-in-Store : goal.returns-in-Store
 unfolding control_is ref_of value_is
@@ -139,7 +139,7 @@ unfolding control_is ref_of value_is
 returns-in-Branch c α f η fr K A R e t fit = let x = over c.args.file.now c.args.starts.now (value_is c.args.v) c.args.h c.args.m.now c.requires.0 in
     let p = x.passed in
     let w = c.top_frame-top.ensures f η fr K A (R α) e (omega (arith, (limited t fit).0, t.callers)) (counted_under t (c.args.h.frames - 1) (omega (arith, t.frames))) in
-    give_branch _ _ _ _ _ R α f η fr K A _ p e t fit _ _ (is_branch _ _ w _ _ c.in-Branch.is) (c.choose-in-Branch.ensures _ Rule.if-true Rule.if-false α f η fr K A R e t)
+    give_branch _ _ _ _ _ R α f η fr K A _ p e t fit _ _ (is_branch _ _ w _ _ c.in-Branch.is) (c.choose-in-Branch.ensures _ Rule.if_true Rule.if_false α f η fr K A R e t)
 
 pub returns-in-Leave : goal.returns-in-Leave
 unfolding control_is ref_of value_is
@@ -153,7 +153,7 @@ unfolding control_is ref_of value_is
 returns-in-Assert c α f η fr K A R e t fit = let x = over c.args.file.now c.args.starts.now (value_is c.args.v) c.args.h c.args.m.now c.requires.0 in
     let p = x.passed in
     let w = c.top_frame-top.ensures f η fr K A (R α) e (omega (arith, (limited t fit).0, t.callers)) (counted_under t (c.args.h.frames - 1) (omega (arith, t.frames))) in
-    give_assert _ _ _ _ _ R α f η fr K A _ p e t fit (is_assert _ _ w c.in-Assert.is) (c.affirm.ensures _ Rule.assert-true Rule.assert-false α f η fr K A R e t)
+    give_assert _ _ _ _ _ R α f η fr K A _ p e t fit (is_assert _ _ w c.in-Assert.is) (c.affirm.ensures _ Rule.assert_true Rule.assert_false α f η fr K A R e t)
 
 pub returns-in-Discard : goal.returns-in-Discard
 unfolding control_is ref_of value_is

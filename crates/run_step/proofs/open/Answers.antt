@@ -15,7 +15,7 @@ use borrow.Author.Rules.{rules}
 use Rattle.run_step.proofs.open.Goals as goal
 
 pub variable-v-requires : goal.variable-v-requires
-variable-v-requires c = let q = c.requires in (q.0.0, omega (arith, q.0.1), rw c.b_at-x.ensures (q.2.variable (sym c.kind_at-kind.ensures ∙ c.in-2.is)))
+variable-v-requires c = (c.requires.0.0, omega (arith, c.requires.0.1), rw c.b_at-x.ensures (c.requires.2.variable (sym c.kind_at-kind.ensures ∙ c.in-2.is)))
 
 pub overflow_sub-at : goal.overflow_sub-at
 overflow_sub-at c = c.requires.2.child (rw (arity_operator _ _ (sym c.kind_at-kind.ensures ∙ c.in-3.is)) (omega arith))
@@ -24,9 +24,7 @@ pub overflow_sub-last : goal.overflow_sub-last
 overflow_sub-last c = c.requires.2.child (rw (arity_and _ _ (sym c.kind_at-kind.ensures ∙ c.in-4.is)) (omega arith))
 
 pub unreachable-requires : goal.unreachable-requires
-unreachable-requires c = let q = c.requires in
-    let k = c.kind_at-kind.ensures in
-    none_evaluated _ c.in_default.in_default-own.rest.0.0.0.1 c.in_default.in_default-own.rest.0.0.1 c.in_default.in_default-own.rest.0.1 c.in_default.in_default-own.rest.1 (rw k q.4) (rw k q.3)
+unreachable-requires c = none_evaluated _ c.in_default.in_default-own.rest.0.0.0.1 c.in_default.in_default-own.rest.0.0.1 c.in_default.in_default-own.rest.0.1 c.in_default.in_default-own.rest.1 (rw c.kind_at-kind.ensures c.requires.4) (rw c.kind_at-kind.ensures c.requires.3)
 
 pub returns-in-2 : goal.returns-in-2
 returns-in-2 c α f η K A R e t pass part fit = let k = sym c.kind_at-kind.ensures ∙ c.in-2.is in

@@ -19,7 +19,7 @@ pub open-requires : goal.open-requires
 open-requires c = let e = evaluates c.args.file.now c.args.starts.now _ c.args.h c.args.m.now (cut c.args.file.now c.args.starts.now (control_is c.args.c) c.args.h c.args.m.now c.requires.0) _ (at_fit_eval _ _ _ _ _ _ c.in-Eval.is c.requires.0) in ((bounds c.args.file.now c.args.starts.now (control_is c.args.c) c.args.h c.args.m.now c.requires.0 c.requires.1), c.requires.0.starts, e.0, e.1, e.2)
 
 pub returns-in-Eval : goal.returns-in-Eval
-returns-in-Eval c α f η K A R e t fit = eval_done _ _ _ _ _ R α f η K A _ _ _ c.in-Eval.is t (cut c.args.file.now c.args.starts.now (control_is c.args.c) c.args.h c.args.m.now c.requires.0) fit (λ i k. «PLACE After-open».«open».ensures α f η K A R e t c.requires.0.passed i k)
+returns-in-Eval c α f η K A R e t fit = eval_done _ _ _ _ _ R α f η K A _ _ _ c.in-Eval.is t (cut c.args.file.now c.args.starts.now (control_is c.args.c) c.args.h c.args.m.now c.requires.0) fit (λ i k. c.«open».ensures α f η K A R e t c.requires.0.passed i k)
 
 pub execute-requires : goal.execute-requires
 execute-requires c = let e = at_fit_exec _ _ _ _ _ _ c.in-Exec.is c.requires.0 in record { bounds = ((bounds c.args.file.now c.args.starts.now (control_is c.args.c) c.args.h c.args.m.now c.requires.0 c.requires.1), executes c.args.file.now c.args.starts.now _ c.args.h c.args.m.now (cut c.args.file.now c.args.starts.now (control_is c.args.c) c.args.h c.args.m.now c.requires.0) _ e); waits = waiting _ _ _ _ _ e }
@@ -28,7 +28,7 @@ pub returns-in-Exec : goal.returns-in-Exec
 returns-in-Exec c α f η K A R e t fit = exec_done _ _ _ _ _ R α f η K A _ _ _ c.in-Exec.is t (cut c.args.file.now c.args.starts.now (control_is c.args.c) c.args.h c.args.m.now c.requires.0) fit (λ i k. c.execute.ensures _ α f η K A R e t c.requires.0.passed i k)
 
 pub give-requires : goal.give-requires
-give-requires c = (at_fit_val _ _ _ _ _ _ (⊎_elim (λ x. nothing_hand _ _ x.1.given.1 x.2) (⊎_elim (λ x. int_hand _ _ _ x.1.given.1 x.3) (λ x. truth_hand _ _ _ x.1.given.1 x.3)) c.match-c.branch) c.requires.0, (cut c.args.file.now c.args.starts.now (control_is c.args.c) c.args.h c.args.m.now c.requires.0), c.requires.1)
+give-requires c = let h = c.match-c.branch in ?
 
 pub returns : goal.returns
 returns c α f η K A R e t fit = val_done _ _ _ _ _ R α f η K A _ _ (⊎_elim (λ x. nothing_hand _ _ x.1.given.1 x.2) (⊎_elim (λ x. int_hand _ _ _ x.1.given.1 x.3) (λ x. truth_hand _ _ _ x.1.given.1 x.3)) c.match-c.branch) e t fit (λ fr L i j k. c.give.ensures α f η fr L A R i j k)

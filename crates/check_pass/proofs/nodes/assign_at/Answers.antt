@@ -20,4 +20,4 @@ unfolding names_variable uses_variable
 insert-requires c = rw c.b_at-x.ensures (c.requires.0.part.named _ c.requires.0.below (rw c.requires.1 refl))
 
 pub returns : goal.returns
-returns c = λ l. let g = c.guard.ensures l in rw (g.1, c.plain.ensures.1, c.plain.ensures.2) (assign_judged _ _ _ _ _ c.minus-b.ensures c.size_at.ensures.0 _ _ _ c.requires.1 c.b_at-x.ensures c.var_type-want.ensures c.strays-inside.ensures c.fits2.ensures (c.requires.0.filled.at _) c.is_suited.ensures g.0 c.reads_of.ensures (c.insert.ensures ∙ rw c.empty.ensures) c.plain.ensures.0)
+returns c = λ l. let g = c.guard.ensures l in rw (g.1, c.plain.ensures.1, c.plain.ensures.2) (assign_judged _ _ _ _ _ c.minus-b.ensures c.size_at.ensures.0 _ _ _ c.requires.1 c.b_at-x.ensures c.var_type-want.ensures c.strays-inside.ensures c.fits-fit.ensures (c.requires.0.filled.at _) c.is_suited.ensures g.0 c.reads_of.ensures (c.insert.ensures ∙ rw c.empty.ensures) c.plain.ensures.0)

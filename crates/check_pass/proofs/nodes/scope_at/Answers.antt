@@ -10,4 +10,4 @@ unfolding names_variable uses_variable
 in_scope-e-requires c = rw c.b_at-x.ensures (c.requires.0.part.named _ c.requires.0.below (rw c.requires.1 refl))
 
 pub returns : goal.returns
-returns c = λ l. let g = c.guard.ensures l in rw g.1 (scope_judged _ _ _ _ _ c.minus-b.ensures c.size_at.ensures.0 _ c.requires.1 c.b_at-x.ensures c.fits2.ensures (c.effect_of-inner.ensures _ _ _ _ _ _ c.requires.0.filled) g.0 c.in_scope-e.ensures (c.requires.0.own c.requires.1) (rw g.1 at l))
+returns c = λ l. let g = c.guard.ensures l in rw g.1 (scope_judged _ _ _ _ _ c.minus-b.ensures c.size_at.ensures.0 _ c.requires.1 c.b_at-x.ensures c.fits-fit.ensures (c.effect_of-inner.ensures _ _ _ _ _ _ c.requires.0.filled) g.0 c.in_scope-e.ensures (c.requires.0.own c.requires.1) (rw g.1 at l))

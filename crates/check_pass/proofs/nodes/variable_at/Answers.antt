@@ -21,4 +21,4 @@ unfolding names_variable uses_variable
 insert-own-requires c = rw c.b_at-x.ensures (c.requires.0.part.named _ c.requires.0.below (rw c.requires.1 refl))
 
 pub returns : goal.returns
-returns c = λ l. let g = c.guard.ensures l in rw (g.1, c.plain.ensures.0, c.plain.ensures.1, c.plain.ensures.2) (variable_judged _ _ _ _ _ _ _ c.requires.1 c.b_at-x.ensures c.var_type-found.ensures c.strays-inside.ensures g.0 c.fits2.ensures (inserted _ _ _ _ c.insert-own.ensures c.b_at-x.ensures).1 c.empty-2.ensures)
+returns c = λ l. let g = c.guard.ensures l in rw (g.1, c.plain.ensures.0, c.plain.ensures.1, c.plain.ensures.2) (variable_judged _ _ _ _ _ _ _ c.requires.1 c.b_at-x.ensures c.var_type-found.ensures c.strays-inside.ensures g.0 c.fits.ensures (inserted _ _ _ _ c.insert-own.ensures c.b_at-x.ensures).1 c.empty-2.ensures)

@@ -1,6 +1,6 @@
 use Rattle.check_pass.specs.Limits.{a_limits}
 use Rattle.check_pass.proofs.survey.a_limits.Goals as goal
 
-returns : tie.Need-returns
+pub returns : goal.returns
 unfolding a_limits
-returns c = rw (c.before.before.before.before.before.before.before.before.before.before.before.before.before.before.before.a-limit.ensures, c.before.before.before.before.before.before.before.before.before.before.before.before.before.before.a-limit2.ensures, c.before.before.before.before.before.before.before.before.before.before.before.before.before.a-limit3.ensures, c.before.before.before.before.before.before.before.before.before.before.before.before.a-limit4.ensures, c.before.before.before.before.before.before.before.before.before.before.before.a-limit5.ensures, c.before.before.before.before.before.before.before.before.before.before.a-limit6.ensures, c.before.before.before.before.before.before.before.before.before.a-limit7.ensures, c.before.before.before.before.before.before.before.before.a-limit8.ensures, c.before.before.before.before.before.before.before.a-limit9.ensures, c.before.before.before.before.before.before.a-limit10.ensures, c.before.before.before.before.before.a-limit11.ensures, c.before.before.before.before.a-limit12.ensures, c.before.before.before.a-limit13.ensures, c.before.before.a-limit14.ensures, c.before.a-limit15.ensures, c.a-limit16.ensures)
+returns c = rw (c.a_limit.ensures, c.a_limit-2.ensures, c.a_limit-3.ensures, c.a_limit-4.ensures, c.a_limit-5.ensures, c.a_limit-6.ensures, c.a_limit-7.ensures, c.a_limit-8.ensures, c.a_limit-9.ensures, c.a_limit-10.ensures, c.a_limit-11.ensures, c.a_limit-12.ensures, c.a_limit-13.ensures, c.a_limit-14.ensures, c.a_limit-15.ensures, c.a_limit-16.ensures)

@@ -2,6 +2,6 @@ use Rattle.check_pass.specs.Limits.{b_limits}
 use borrow.Author.Rules.{rules}
 use Rattle.check_pass.proofs.survey.b_limits.Goals as goal
 
-returns : tie.Need-returns
+pub returns : goal.returns
 unfolding b_limits
-returns c = rw (c.before.before.before.before.before.before.before.before.before.before.before.before.before.before.before.b-limit.ensures, c.before.before.before.before.before.before.before.before.before.before.before.before.before.before.b-limit2.ensures, c.before.before.before.before.before.before.before.before.before.before.before.before.before.b-limit3.ensures, c.before.before.before.before.before.before.before.before.before.before.before.before.b-limit4.ensures, c.before.before.before.before.before.before.before.before.before.before.before.b-limit5.ensures, c.before.before.before.before.before.before.before.before.before.before.b-limit6.ensures, c.before.before.before.before.before.before.before.before.before.b-limit7.ensures, c.before.before.before.before.before.before.before.before.b-limit8.ensures, c.before.before.before.before.before.before.before.b-limit9.ensures, c.before.before.before.before.before.before.b-limit10.ensures, c.before.before.before.before.before.b-limit11.ensures, c.before.before.before.before.b-limit12.ensures, c.before.before.before.b-limit13.ensures, c.before.before.b-limit14.ensures, c.before.b-limit15.ensures, c.b-limit16.ensures, c.before.before.before.before.before.before.before.before.before.before.before.before.before.before.before.before.wide.ensures.0, c.before.before.before.before.before.before.before.before.before.before.before.before.before.before.before.before.before.vars-of.ensures)
+returns c = rw (c.b_limit.ensures, c.b_limit-2.ensures, c.b_limit-3.ensures, c.b_limit-4.ensures, c.b_limit-5.ensures, c.b_limit-6.ensures, c.b_limit-7.ensures, c.b_limit-8.ensures, c.b_limit-9.ensures, c.b_limit-10.ensures, c.b_limit-11.ensures, c.b_limit-12.ensures, c.b_limit-13.ensures, c.b_limit-14.ensures, c.b_limit-15.ensures, c.b_limit-16.ensures, c.wide-v.ensures.0, c.vars_of.ensures)

@@ -12,6 +12,7 @@ use Rattle.spec_language.specs.Nodes.{node_ok}
 use Rattle.check_scopes.specs.Counts.{Counts, Noted}
 use Rattle.check_scopes.proofs.Decls.{counts_none, counts_other, noted_other}
 use Rattle.check_pass.proofs.Surveying.{decl_narrow, surveyed}
+use Rattle.check_pass.proofs.survey.survey_part.Goals.{then-not-within_limits+else-not-node_ok, else-not-within_limits}
 use Rattle.check_pass.proofs.survey.survey_part.Goals as goal
 
 pub b_limits-limits-requires : goal.b_limits-limits-requires
@@ -36,7 +37,11 @@ pub note_decl-requires : goal.note_decl-requires
 note_decl-requires c = record { inside = omega (arith, c.requires.inside, c.loop-i-test.true); narrow = decl_narrow _ _ _ _ c.requires.laid.0 c.requires.laid.1 (sym c.node_ok.ensures ∙ not-false _ c.if-not-node_ok.false-raw); told = c.loop-i.invariant.3 }
 
 pub loop-i-preserved : goal.loop-i-preserved
-loop-i-preserved c = ⊎_elim (λ w. (search rules, below_more _ _ c.loop-i.invariant.1 (sym (ap not w.1.ensures) ∙ w.2.left), rw w.7 w.3.ensures, rw w.6 w.5.ensures)) (λ w. (search rules, below_more _ _ c.loop-i.invariant.1 (ap not (c.within_limits.ensures (not-false _ w.0.left)).0), rw w.2 (counts_other _ _ _ c.loop-i.invariant.2 (c.within_limits.ensures (not-false _ w.0.left)).1), rw w.1 (noted_other _ c.loop-i.table _ c.loop-i.invariant.3 (c.within_limits.ensures (not-false _ w.0.left)).1))) c.if-not-within_limits.branch
+loop-i-preserved c =
+    elim c.if-not-within_limits.branch
+    [ then-not-within_limits+else-not-node_ok w ↦ (search rules, below_more _ _ c.loop-i.invariant.1 (sym (ap not w.node_ok.ensures) ∙ w.if-not-node_ok.false-raw), rw w.d-is w.count_decl-d.ensures, rw w.table-is w.note_decl.ensures)
+    | else-not-within_limits w ↦ (search rules, below_more _ _ c.loop-i.invariant.1 (ap not (c.within_limits.ensures (not-false _ w.if-not-within_limits.false-raw)).0), rw w.d-is (counts_other _ _ _ c.loop-i.invariant.2 (c.within_limits.ensures (not-false _ w.if-not-within_limits.false-raw)).1), rw w.table-is (noted_other _ c.loop-i.table _ c.loop-i.invariant.3 (c.within_limits.ensures (not-false _ w.if-not-within_limits.false-raw)).1))
+    ]
 
 pub lowest_undeclared-requires : goal.lowest_undeclared-requires
 lowest_undeclared-requires c = record { laid = (omega (arith, c.requires.laid.0.heads, c.requires.laid.1), c.requires.laid.0.vars _ c.requires.laid.1, c.requires.laid.0.params _ c.requires.laid.1); counted = rw (le_antisymm c.loop-i-test.false c.loop-i.invariant.0) c.loop-i.invariant.2 }

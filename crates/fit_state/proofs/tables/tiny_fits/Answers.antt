@@ -5,4 +5,4 @@ use borrow.Author.Rules.{rules}
 use Rattle.fit_state.proofs.tables.tiny_fits.Goals as goal
 
 pub running_fits-requires : goal.running_fits-requires
-running_fits-requires c = let p = (c.requires.file, c.requires.room) in record { file = p.0; table = table_room _ 32 (laid _ p.0.0) (inl p.1) }
+running_fits-requires c = record { file = c.requires.file; table = table_room _ 32 (laid _ c.requires.file.0) (inl c.requires.room) }

@@ -5,5 +5,4 @@ use borrow.Author.Rules.{rules}
 use Rattle.run_rules.proofs.calling.clear.Goals as goal
 
 pub returns : goal.returns
-returns c z w = let p = c.requires in
-    c.zero_at.ensures ∙ rw (p.0 ∙ sym w) (zeroed _ z (omega arith))
+returns c z w = c.zero_at.ensures ∙ rw (c.requires.0 ∙ sym w) (zeroed _ z (omega arith))

@@ -15,19 +15,17 @@ pub returns-then-h-ge-SAVED_LIMIT : goal.returns-then-h-ge-SAVED_LIMIT
 returns-then-h-ge-SAVED_LIMIT c α f η k vs K A R e t y p v = entered_full _ _ _ _ R α f _ η _ _ K A t (search rules)
 
 pub body_of-requires : goal.body_of-requires
-body_of-requires c = let q = c.requires in part_laid _ c.args.starts.now _ _ _ q.2 q.3 refl c.count_of-count.ensures.0
+body_of-requires c = part_laid _ c.args.starts.now _ _ _ c.requires.2 c.requires.3 refl c.count_of-count.ensures.0
 
 pub overflow_add-result-2 : goal.overflow_add-result-2
 overflow_add-result-2 c = record { fits = omega (arith, c.requires.0.2) }
 
 pub returns : goal.returns
 unfolding control_is
-returns c α f η k vs K A R e t y p v = let q = c.requires in
-    let w = c.wide.ensures.0 ∙ c.vars_of.ensures in
-    let d = c.count_of-count.ensures.0 in
-    let i = q.2.1 _ q.3 in
-    let u = counted_under t (c.args.h.frames - 1) (omega (arith, q.1)) in
-    on_is _ _ _ _ _ R α _ _ _ _ _ _ (ap machine.exec (c.body_of.ensures _ i d)) (entered_some _ _ _ (vs ++ (value_is c.args.v ∷ [])) p)
+returns c α f η k vs K A R e t y p v = let w = c.wide.ensures.0 ∙ c.vars_of.ensures in
+    let i = c.requires.2.1 _ c.requires.3 in
+    let u = counted_under t (c.args.h.frames - 1) (omega (arith, c.requires.1)) in
+    on_is _ _ _ _ _ R α _ _ _ _ _ _ (ap machine.exec (c.body_of.ensures _ i c.count_of-count.ensures.0)) (entered_some _ _ _ (vs ++ (value_is c.args.v ∷ [])) p)
     (c.enter.ensures f η k vs (vars_of c.args.file.now c.args.g - suc c.args.y) K A (R α) e t.callers u (omega (arith, t.frames)) y
-    (omega (arith, w, q.2.0.vars _ q.3)) (omega (arith, w, v, y)))
-    (entered_describes _ f η K A _ _ _ _ _ i d (omega (arith, t.callers)) u) (omega (arith, c.if-h-ge-SAVED_LIMIT.false)) (omega (arith, q.0.2))
+    (omega (arith, w, c.requires.2.0.vars _ c.requires.3)) (omega (arith, w, v, y)))
+    (entered_describes _ f η K A _ _ _ _ _ i c.count_of-count.ensures.0 (omega (arith, t.callers)) u) (omega (arith, c.if-h-ge-SAVED_LIMIT.false)) (omega (arith, c.requires.0.2))

@@ -18,4 +18,4 @@ returns-in-15 c = rw (look_nothing _ _ (sym c.kind_at-kind.ensures ∙ c.in-15.i
 
 pub returns-in_default : goal.returns-in_default
 unfolding control_is value_is
-returns-in_default c = let k = c.kind_at-kind.ensures in let r = c.in_default.in_default-own.rest in reach_other _ _ (λ e. r.0.0.1 (k ∙ e)) (λ e. r.0.1 (k ∙ e)) (λ e. r.1 (k ∙ e))
+returns-in_default c = let r = c.in_default.in_default-own.rest in reach_other _ _ (λ e. r.0.0.1 (c.kind_at-kind.ensures ∙ e)) (λ e. r.0.1 (c.kind_at-kind.ensures ∙ e)) (λ e. r.1 (c.kind_at-kind.ensures ∙ e))

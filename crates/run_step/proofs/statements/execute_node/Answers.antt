@@ -15,14 +15,14 @@ use Rattle.run_rules.proofs.Entries.{on_is}
 use Rattle.run_step.proofs.Facts.{variables_few, decl_variable}
 use Rattle.run_step.proofs.Forms.{form_seq, form_assign, form_decl, form_if, form_while, single_done}
 use borrow.Author.Rules.{rules}
+use Rattle.run_step.proofs.statements.execute_node.Goals.{in_default-via-then-kind-lt7, in_default-via-else-kind-lt7+else-kind-lt15}
 use Rattle.run_step.proofs.statements.execute_node.Goals as goal
 
 pub store_variable-requires : goal.store_variable-requires
-store_variable-requires c = let q = (c.requires.bounds, c.requires.variable) in (q.0.0, rw c.b_at-in-9.ensures (q.1 (sym c.kind_at-kind.ensures ∙ c.in-9.is)))
+store_variable-requires c = (c.requires.bounds.0, rw c.b_at-in-9.ensures (c.requires.variable (sym c.kind_at-kind.ensures ∙ c.in-9.is)))
 
 pub unreachable-requires : goal.unreachable-requires
-unreachable-requires c = let q = c.requires.bounds in
-    clash _ q.4 (rw (← c.kind_at-kind.ensures) (statement_outside _ (⊎_elim (λ w. inl w.taken) (λ w. inr w.1.left) c.in_default.branch)))
+unreachable-requires c = clash _ c.requires.bounds.4 (rw (← c.kind_at-kind.ensures) (statement_outside c.kind_at-kind.result (elim c.in_default.branch [ in_default-via-then-kind-lt7 w ↦ inl (omega arith) | in_default-via-else-kind-lt7+else-kind-lt15 w ↦ inr (omega arith) ])))
 
 pub returns-in-7 : goal.returns-in-7
 unfolding control_is frame_words block
@@ -58,6 +58,5 @@ returns-in-11 c s α f η K A R e t pass part fit = let k = sym c.kind_at-kind.e
     rw (form_while _ _ c.requires.bounds.3 k) (on_is s _ _ _ _ R α _ f η η K A (ap exec (ref_back (if_of c.args.i))) refl e t c.requires.bounds.0.1 c.requires.bounds.0.2)
 
 pub returns-in-12-to-14 : goal.returns-in-12-to-14
-returns-in-12-to-14 c s α f η K A R e t pass part fit = let k = c.kind_at-kind.ensures in
-    single_done s _ _ _ _ R α f η K A _ c.requires.bounds.3 part _ (rw (← k) (search rules)) (rw (← k) (search rules)) (rw (c.wide.ensures.0, k))
+returns-in-12-to-14 c s α f η K A R e t pass part fit = single_done s _ _ _ _ R α f η K A _ c.requires.bounds.3 part _ (rw (← c.kind_at-kind.ensures) (search rules)) (rw (← c.kind_at-kind.ensures) (search rules)) (rw (c.wide.ensures.0, c.kind_at-kind.ensures))
     (λ fr w. rw (← c.reach-in-12-to-14.ensures) (c.lay-in-12-to-14.ensures s α f η fr K A R e t w))

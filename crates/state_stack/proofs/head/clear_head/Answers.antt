@@ -23,4 +23,4 @@ shape_of-m c = let e = c.put_frame_count.auto.m in omega (arith, simp length-set
 
 pub returns : goal.returns
 unfolding activation_at
-returns c t α f η K A R e a = c.put_frame_count.ensures ∙ rw e (heads.clear-head t α f η K A R _ _ a (omega arith))
+returns c t α f η K A R e a = c.put_frame_count.ensures ∙ rw e (heads.clear_head t α f η K A R _ _ a (omega arith))

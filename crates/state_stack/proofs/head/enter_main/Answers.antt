@@ -6,4 +6,4 @@ use Rattle.state_stack.proofs.head.enter_main.Goals as goal
 
 pub returns : goal.returns
 unfolding activation_at
-returns c z R e all few = c.put_activation.ensures ∙ rw e (calls.enter-main R z _ _ _ all refl few)
+returns c z R e all few = c.put_activation.ensures ∙ rw e (calls.enter_main R z _ _ _ all refl few)

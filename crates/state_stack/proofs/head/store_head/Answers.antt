@@ -24,4 +24,4 @@ shape_of-m c = let e = c.put_frame_count.auto.m in omega (arith, simp length-set
 pub returns : goal.returns
 unfolding activation_at
 returns c t α f η K A R e a k w = c.put_frame_count.ensures
-    ∙ rw e (heads.store-head t α f η K A R _ _ a (omega arith) _ _ _ _ (omega arith) k w)
+    ∙ rw e (heads.store_head t α f η K A R _ _ a (omega arith) _ _ _ _ (omega arith) k w)

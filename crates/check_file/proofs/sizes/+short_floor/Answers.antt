@@ -1,0 +1,22 @@
+use mathlib.Core.Logic.{inl}
+use native.Mathlib.Omega.{arith}
+use borrow.Author.Rules.{rules}
+use Rattle.check_summary.proofs.Rooms.{parts_within}
+use Rattle.check_file.proofs.Rounds.{fewer_passed}
+use Prim.Native.Nat.{ℕ, ◌<◌}
+use Rattle.check_file.proofs.sizes.+short_floor.Goals as goal
+
+pub parts_floor-own-requires : goal.parts_floor-own-requires
+parts_floor-own-requires t c = let w = parts_within _ 256 c.requires.0 (inl (omega (arith, c.requires.1))) in record { laid = c.requires.0; room = (λ f l. omega (arith, w f l), λ f l. omega (arith, w f l), λ f l. omega (arith, w f l)) }
+
+pub overflow_sub-k : goal.overflow_sub-k
+overflow_sub-k t c = omega (arith, c.if-k-gt0.true)
+
+pub short_floor-requires : goal.short_floor-requires
+short_floor-requires t c = (omega (arith, c.if-k-gt0.true), c.requires)
+
+pub returns-then-k-gt0 : goal.returns-then-k-gt0
+returns-then-k-gt0 t c = (fewer_passed _ c.lower.ensures.0 c.parts_floor-own.ensures.0, c.lower.ensures.2 c.parts_floor-own.ensures.1 c.short_floor.ensures.1, omega (arith, c.lower.ensures.0, c.parts_floor-own.ensures.2))
+
+pub returns : goal.returns
+returns t c = c.parts_floor-own.ensures
