@@ -16,9 +16,8 @@ pub copy-requires : goal.copy-requires
 copy-requires c = sym (length-take-le size c.args.m.now c.requires.1)
 
 pub returns-then-not-holds_fit : goal.returns-then-not-holds_fit
-returns-then-not-holds_fit c = let p = c.requires in
-    let e = c.restore.ensures ∙ ap (earlier _ _) c.copy.ensures in
-    unfit _ _ _ _ p.2 p.1 _ e (sym c.holds_fit.ensures ∙ not-true _ c.if-not-holds_fit.true-raw)
+returns-then-not-holds_fit c = let e = c.restore.ensures ∙ ap (earlier _ _) c.copy.ensures in
+    unfit _ _ _ _ c.requires.2 c.requires.1 _ e (sym c.holds_fit.ensures ∙ not-true _ c.if-not-holds_fit.true-raw)
 
 pub run-ran-requires : goal.run-ran-requires
 run-ran-requires c = (words_held _ _ c.requires.0.passed (sym c.holds_fit.ensures ∙ not-false _ c.if-not-holds_fit.false-raw), search rules)
@@ -30,12 +29,11 @@ pub is_same-requires : goal.is_same-requires
 is_same-requires c = let e = length-take-le size c.args.m.now c.requires.1 in search rules
 
 pub returns-then-ran-eq0 : goal.returns-then-ran-eq0
-returns-then-ran-eq0 c = let p = c.requires in
-    let e = c.restore.ensures ∙ ap (earlier _ _) c.copy.ensures in
+returns-then-ran-eq0 c = let e = c.restore.ensures ∙ ap (earlier _ _) c.copy.ensures in
     let f = sym c.holds_fit.ensures ∙ not-false _ c.if-not-holds_fit.false-raw in
     ⊎_elim
-    (λ w. stood _ _ _ _ p.2 p.1 _ e f _ _ _ c.run-ran.ensures w.taken)
-    (λ w. elsewhere _ _ _ _ p.2 p.1 _ e f _ _ _ c.run-ran.ensures w.0.left (sym w.3.ensures ∙ not-true _ w.4.taken))
+    (λ w. stood _ _ _ _ c.requires.2 c.requires.1 _ e f _ _ _ c.run-ran.ensures w.taken)
+    (λ w. elsewhere _ _ _ _ c.requires.2 c.requires.1 _ e f _ _ _ c.run-ran.ensures w.0.left (sym w.3.ensures ∙ not-true _ w.4.taken))
     c.then-ran-eq0.branch
 
 pub slice_bounds-restore-end-3 : goal.slice_bounds-restore-end-3
@@ -45,7 +43,6 @@ pub restore-requires-2 : goal.restore-requires-2
 restore-requires-2 c = (c.requires.2, length-take-le size c.args.m.now c.requires.1)
 
 pub returns : goal.returns
-returns c = let p = c.requires in
-    let e = c.restore.ensures ∙ ap (earlier _ _) c.copy.ensures in
+returns c = let e = c.restore.ensures ∙ ap (earlier _ _) c.copy.ensures in
     let f = sym c.holds_fit.ensures ∙ not-false _ c.if-not-holds_fit.false-raw in
-    leads_back_lem _ _ _ _ p.2 p.1 _ e f _ _ _ c.run-ran.ensures c.if-ran-eq0.false (sym c.is_same.ensures ∙ not-false _ c.if-not-is_same.false-raw) _ c.restore-2.ensures
+    leads_back_lem _ _ _ _ c.requires.2 c.requires.1 _ e f _ _ _ c.run-ran.ensures c.if-ran-eq0.false (sym c.is_same.ensures ∙ not-false _ c.if-not-is_same.false-raw) _ c.restore-2.ensures

@@ -10,7 +10,7 @@ pub returns-then-ran-eq0 : goal.returns-then-ran-eq0
 returns-then-ran-eq0 c s R e f = stood c.args.file.now (λ i. (c.shared_slice_known-1.given i).fits) c.requires.0.passed s R f (c.run-ran.ensures s R e f) _ _ c.if-ran-eq0.true
 
 pub extent_of-after-requires : goal.extent_of-after-requires
-extent_of-after-requires c = let z = c.requires.0 in after_state c.args.file.now (λ i. (c.shared_slice_known-1.given i).fits) z.passed z.state z.rest z.fit (c.run-ran.ensures z.state z.rest z.held z.fit)
+extent_of-after-requires c = after_state c.args.file.now (λ i. (c.shared_slice_known-1.given i).fits) c.requires.0.passed c.requires.0.state c.requires.0.rest c.requires.0.fit (c.run-ran.ensures c.requires.0.state c.requires.0.rest c.requires.0.held c.requires.0.fit)
 
 pub count_changes-k-requires : goal.count_changes-k-requires
 count_changes-k-requires c = c.joined-both.ensures _ _ c.requires.3 c.extent_of-after.ensures
@@ -19,7 +19,7 @@ pub returns-then-log-used : goal.returns-then-log-used
 returns-then-log-used c s R e f = crowded c.args.file.now (λ i. (c.shared_slice_known-1.given i).fits) c.requires.0.passed s R f (c.run-ran.ensures s R e f) c.args.log.now c.args.used c.if-ran-eq0.false (c.requires.2 ∙ first_words s R c.args.file.now f e) (c.record_bytes-bytes.ensures _ _ c.requires.3.long c.count_changes-k.ensures.0) (⊎_elim (λ w. inl w.taken) (λ w. inr (ltb-true _ _ w.1.taken)) c.then-log-used.branch) c.copy.ensures
 
 pub put_record-requires : goal.put_record-requires
-put_record-requires c = let z = c.requires.0 in (c.joined-both.ensures _ _ c.requires.3 c.extent_of-after.ensures, c.count_changes-k.ensures.0, room c.args.file.now (λ i. (c.shared_slice_known-1.given i).fits) z.passed z.state z.rest z.fit (c.run-ran.ensures z.state z.rest z.held z.fit) c.args.log.now c.args.used c.if-ran-eq0.false (c.requires.2 ∙ first_words z.state z.rest c.args.file.now z.fit z.held) (c.record_bytes-bytes.ensures _ _ c.requires.3.long c.count_changes-k.ensures.0) c.if-log-used.false (ltb-false _ _ c.if-log-used-2.false-raw))
+put_record-requires c = (c.joined-both.ensures _ _ c.requires.3 c.extent_of-after.ensures, c.count_changes-k.ensures.0, room c.args.file.now (λ i. (c.shared_slice_known-1.given i).fits) c.requires.0.passed c.requires.0.state c.requires.0.rest c.requires.0.fit (c.run-ran.ensures c.requires.0.state c.requires.0.rest c.requires.0.held c.requires.0.fit) c.args.log.now c.args.used c.if-ran-eq0.false (c.requires.2 ∙ first_words c.requires.0.state c.requires.0.rest c.args.file.now c.requires.0.fit c.requires.0.held) (c.record_bytes-bytes.ensures _ _ c.requires.3.long c.count_changes-k.ensures.0) c.if-log-used.false (ltb-false _ _ c.if-log-used-2.false-raw))
 
 pub returns : goal.returns
 returns c s R e f = taken c.args.file.now (λ i. (c.shared_slice_known-1.given i).fits) c.requires.0.passed s R f (c.run-ran.ensures s R e f) c.args.log.now c.args.used c.if-ran-eq0.false (c.requires.2 ∙ first_words s R c.args.file.now f e) (c.record_bytes-bytes.ensures _ _ c.requires.3.long c.count_changes-k.ensures.0) c.if-log-used.false (ltb-false _ _ c.if-log-used-2.false-raw) c.extent_of-after.ensures c.put_record.ensures.words c.put_record.ensures.log

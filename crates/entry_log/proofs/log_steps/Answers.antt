@@ -8,7 +8,7 @@ use Rattle.entry_log.proofs.Loops.{Logging, logging_none, logging_held, took_roo
 use Rattle.entry_log.proofs.log_steps.Goals as goal
 
 pub extent_of-extent-requires : goal.extent_of-extent-requires
-extent_of-extent-requires c = let z = c.requires.0 in (state_held c.args.file.now z.passed z.state z.rest z.fit z.held, c.requires.1, no_env z.state z.rest c.args.file.now z.fit z.held)
+extent_of-extent-requires c = (state_held c.args.file.now c.requires.0.passed c.requires.0.state c.requires.0.rest c.requires.0.fit c.requires.0.held, c.requires.1, no_env c.requires.0.state c.requires.0.rest c.args.file.now c.requires.0.fit c.requires.0.held)
 
 pub loop-steps-init : goal.loop-steps-init
 loop-steps-init c = logging_none _ _ _ _ _ _ _ c.requires.2 c.extent_of-extent.ensures
@@ -17,7 +17,7 @@ pub log_step-requires : goal.log_step-requires
 log_step-requires c = let q = logging_held c.args.file.now (λ i. (c.shared_slice_known-1.given i).fits) c.requires.0.passed c.loop-steps.invariant c.requires.0 in (q.0, omega (arith, c.loop-steps.invariant.long, c.requires.1), q.1, q.2)
 
 pub overflow_add-next : goal.overflow_add-next
-overflow_add-next c = let z = c.requires.0 in let t = c.loop-steps.invariant.reached z.state z.rest z.held z.fit in omega (arith, took_room c.args.file.now (λ i. (c.shared_slice_known-1.given i).fits) z.passed c.loop-steps.invariant c.loop-steps-test.true t.state z.rest t.fit (rw c.in-Took.is at (c.log_step.ensures t.state z.rest t.held t.fit)), c.loop-steps.invariant.room)
+overflow_add-next c = let t = c.loop-steps.invariant.reached c.requires.0.state c.requires.0.rest c.requires.0.held c.requires.0.fit in omega (arith, took_room c.args.file.now (λ i. (c.shared_slice_known-1.given i).fits) c.requires.0.passed c.loop-steps.invariant c.loop-steps-test.true t.state c.requires.0.rest t.fit (rw c.in-Took.is at (c.log_step.ensures t.state c.requires.0.rest t.held t.fit)), c.loop-steps.invariant.room)
 
 pub loop-steps-preserved : goal.loop-steps-preserved
 loop-steps-preserved c = logging_on c.args.file.now (λ i. (c.shared_slice_known-1.given i).fits) c.requires.0.passed c.loop-steps.invariant c.loop-steps-test.true c.log_step.auto.m c.log_step.auto.before c.log_step.auto.log (λ s R e f. rw c.in-Took.is at (c.log_step.ensures s R e f))

@@ -10,4 +10,4 @@ pub fits-requires : goal.fits-requires
 fits-requires c = (c.requires.0, c.requires.1, image_held _ (c.holds_image.ensures.sound (not-false _ c.if-not-holds_image.false-raw)))
 
 pub returns : goal.returns
-returns c = an_image _ _ _ (c.holds_image.ensures.sound (not-false _ c.if-not-holds_image.false-raw)) c.fits2.ensures
+returns c = an_image _ _ _ (c.holds_image.ensures.sound (not-false _ c.if-not-holds_image.false-raw)) c.fits.ensures
