@@ -1,4 +1,3 @@
-use borrow.Author.Rules.{rules}
 use Rattle.release_desk.proofs.serve.Goals as goal
 
 pub slice_bounds-serve_content-end : goal.slice_bounds-serve_content-end
