@@ -5,10 +5,23 @@ ghost use Rattle.std.specs.Prelude.{◌≤◌, length, nat_abs};
 ghost use Rattle.desk_files.specs.Kept.{Inside};
 ghost use Rattle.desk_files.specs.Names.{Plain};
 
+use std::fs::File;
+use std::io;
+use std::io::Read;
+use std::rt::Files;
 use texts::{put_numbered, put_word};
 
-// The descriptor that the name of one dash is read from.
-const DASH: i32 = 3;
+// The file that the name of one dash is read from: descriptor 3.
+const DASH: &str = "/proc/self/fd/3";
+
+// The numbers of four errors: no such file, a bad descriptor, an argument that is not valid, and a name that is no text.
+const NO_SUCH_FILE: i32 = 2;
+
+const BAD_DESCRIPTOR: i32 = 9;
+
+const NOT_VALID: i32 = 22;
+
+const NO_TEXT: i32 = 84;
 
 // How many bytes of a file are kept, or the number of the error that the system gave.
 #[derive(Clone, Copy)]
@@ -17,21 +30,25 @@ pub enum Content {
     Failed(i32),
 }
 
+// The number of an error that came with one, and that of an argument that is not valid for any other.
+fn number_of(error: io::Error) -> i32 {
+    match error.raw_os_error() {
+        Some(number) => number,
+        None => NOT_VALID,
+    }
+}
+
 // Reads a file from where it stands until the buffer is full or the file ends.
-fn read_file(fd: i32, file: &mut [u8]) -> Content
+fn read_file<F: Read>(source: &mut F, file: &mut [u8]) -> Content
     ensures { Inside result (length file.new) }
 {
     let mut n = 0;
     while n < file.len() {
-        let got = libc::read(fd, &mut file[n..]);
-        if got < 0 {
-            return Content::Failed(os::errno());
+        match source.read(&mut file[n..]) {
+            Err(error) => return Content::Failed(number_of(error)),
+            Ok(0) => return Content::Bytes(n),
+            Ok(more) => n += more,
         }
-        let more = io::count(got, &file[n..]);
-        if more == 0 {
-            return Content::Bytes(n);
-        }
-        n += more;
     }
     Content::Bytes(n)
 }
@@ -44,20 +61,39 @@ fn is_dash(name: &[u8]) -> bool {
     name[0] == b'-'
 }
 
-// Opens, reads and closes the file of that name; one dash is what descriptor 3 gives, since names come by standard input.
-pub fn content_of(name: &[u8], file: &mut [u8]) -> Content
+// Opens, reads and closes the file of that path.
+fn content_at<R: Files>(rt: &R, path: &str, file: &mut [u8]) -> Content
+    ensures { Inside result (length file.new) }
+{
+    match File::open(rt, path) {
+        Err(error) => Content::Failed(number_of(error)),
+        Ok(mut source) => read_file(&mut source, file),
+    }
+}
+
+// Reads descriptor 3, which is a bad descriptor where it is not open.
+fn content_of_dash<R: Files>(rt: &R, file: &mut [u8]) -> Content
+    ensures { Inside result (length file.new) }
+{
+    let content = content_at(rt, DASH, file);
+    match content {
+        Content::Failed(NO_SUCH_FILE) => Content::Failed(BAD_DESCRIPTOR),
+        _ => content,
+    }
+}
+
+// Opens, reads and closes the file of that name; one dash is what descriptor 3 gives, since names come by standard input. A name
+// that is no UTF-8 opens nothing.
+pub fn content_of<R: Files>(rt: &R, name: &[u8], file: &mut [u8]) -> Content
     ensures { Inside result (length file.new) }
 {
     if is_dash(name) {
-        return read_file(DASH, file);
+        return content_of_dash(rt, file);
     }
-    let fd = os::open_read(name);
-    if fd < 0 {
-        return Content::Failed(os::errno());
+    match str::from_utf8(name) {
+        Err(_) => Content::Failed(NO_TEXT),
+        Ok(path) => content_at(rt, path, file),
     }
-    let content = read_file(fd, file);
-    libc::close(fd);
-    content
 }
 
 // The number of an error, which is never below 0.

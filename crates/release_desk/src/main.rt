@@ -4,11 +4,18 @@
 // the third is the revision that objects name.
 #![tactic(auto)]
 
+ghost use Rattle.std.specs.Prelude.{◌≤◌, length};
+
 use check_file::Answer;
 use desk_files::Content;
 use desk_lines::Style;
 use desk_lines::counts::{COUNTERS, PASSED, UNREAD, count};
 use records::format::KEPT_BYTES;
+use std::io::{Input, Read};
+use std::rt::{Env, Files};
+
+// The number of the error of a name that is too long.
+const NAME_TOO_LONG: i32 = 36;
 
 // How the desk speaks, and how many bytes wait.
 #[derive(Clone, Copy)]
@@ -69,6 +76,7 @@ fn make_printed(name: &mut [u8], style: Style) {
 
 // Serves one file: reads it, checks it and says what came of it.
 fn serve(
+    rt: &impl Files,
     name: &mut [u8],
     file: &mut [u8],
     revision: &[u8],
@@ -77,7 +85,7 @@ fn serve(
     desk: Desk,
 ) -> Desk {
     let style = desk.style;
-    let content = desk_files::content_of(name, file);
+    let content = desk_files::content_of(rt, name, file);
     make_printed(name, style);
     let at = match content {
         Content::Failed(error) => serve_error(name, error, revision, out, tally, desk),
@@ -99,7 +107,7 @@ fn serve_long(
 ) -> Desk {
     let style = desk.style;
     make_printed(name, style);
-    let at = serve_error(name, libc::ENAMETOOLONG, revision, out, tally, desk);
+    let at = serve_error(name, NAME_TOO_LONG, revision, out, tally, desk);
     Desk { style, at }
 }
 
@@ -124,6 +132,7 @@ fn gather(b: u8, name: &mut [u8], listed: Listed) -> Listed {
 
 // Serves the file of the name that has been read.
 fn serve_listed(
+    rt: &impl Files,
     name: &mut [u8],
     file: &mut [u8],
     revision: &[u8],
@@ -140,11 +149,12 @@ fn serve_listed(
         return desk;
     }
     let start = 0;
-    serve(&mut name[start..n], file, revision, out, tally, desk)
+    serve(rt, &mut name[start..n], file, revision, out, tally, desk)
 }
 
 // Takes in a byte of a list of names, each of which ends with a zero byte.
 fn serve_byte(
+    rt: &impl Files,
     b: u8,
     name: &mut [u8],
     file: &mut [u8],
@@ -157,7 +167,7 @@ fn serve_byte(
         return gather(b, name, listed);
     }
     Listed {
-        desk: serve_listed(name, file, revision, out, tally, listed),
+        desk: serve_listed(rt, name, file, revision, out, tally, listed),
         length: 0,
         long: false,
     }
@@ -165,6 +175,7 @@ fn serve_byte(
 
 // Takes in some bytes of a list of names.
 fn serve_bytes(
+    rt: &impl Files,
     bytes: &[u8],
     name: &mut [u8],
     file: &mut [u8],
@@ -176,14 +187,25 @@ fn serve_bytes(
     let mut state = listed;
     let mut i = 0;
     while i < bytes.len() {
-        state = serve_byte(bytes[i], name, file, revision, out, tally, state);
+        state = serve_byte(rt, bytes[i], name, file, revision, out, tally, state);
         i += 1;
     }
     state
 }
 
+// Reads what bytes there are, and none where the input ends or cannot be read.
+fn read_some<I: Read>(input: &mut I, bytes: &mut [u8]) -> usize
+    ensures { result ≤ length bytes.new }
+{
+    match input.read(bytes) {
+        Ok(n) => n,
+        Err(_) => 0,
+    }
+}
+
 // Serves the names that standard input ends with a zero byte. The turns are counted down from a number that no run uses up, so that it ends.
 fn serve_ended(
+    rt: &(impl Files + Input),
     name: &mut [u8],
     file: &mut [u8],
     revision: &[u8],
@@ -191,16 +213,16 @@ fn serve_ended(
     tally: &mut [u64],
     listed: Listed,
 ) -> Listed {
+    let mut input = rt.reader();
     let mut bytes = [0u8; 4096];
     let mut state = listed;
     let mut turns = u64::MAX;
     while turns > 0 {
-        let got = libc::read(0, &mut bytes);
-        let n = io::count(got, &bytes);
+        let n = read_some(&mut input, &mut bytes);
         if n == 0 {
             return state;
         }
-        state = serve_bytes(&bytes[..n], name, file, revision, out, tally, state);
+        state = serve_bytes(rt, &bytes[..n], name, file, revision, out, tally, state);
         turns -= 1;
     }
     state
@@ -208,6 +230,7 @@ fn serve_ended(
 
 // Serves the files that standard input names, the last name with or without a zero byte.
 fn serve_list(
+    rt: &(impl Files + Input),
     name: &mut [u8],
     file: &mut [u8],
     revision: &[u8],
@@ -220,39 +243,51 @@ fn serve_list(
         length: 0,
         long: false,
     };
-    let ended = serve_ended(name, file, revision, out, tally, none);
+    let ended = serve_ended(rt, name, file, revision, out, tally, none);
     if ended.length == 0 {
         return ended.desk;
     }
-    serve_listed(name, file, revision, out, tally, ended)
+    serve_listed(rt, name, file, revision, out, tally, ended)
+}
+
+// Puts argument i at the start of a text and answers its length, or 0 where it is missing or longer than the text.
+fn put_argument(rt: &impl Env, i: usize, text: &mut [u8]) -> usize
+    ensures { result ≤ length text.new }
+{
+    match rt.arg(i, text) {
+        Ok(n) => n,
+        Err(_) => 0,
+    }
 }
 
 // Whether argument i is that word.
-fn is_argument(i: usize, word: &[u8]) -> bool {
+fn is_argument(rt: &impl Env, i: usize, word: &[u8]) -> bool {
     let mut text = [0u8; 16];
-    let n = os::arg(i, &mut text);
+    let n = put_argument(rt, i, &mut text);
     check::same(&text[..n], word)
 }
 
 // Serves the files that standard input names, and writes out what is said of them with the counts.
-fn serve_all(style: Style, revision: &[u8]) {
+fn serve_all(rt: &(impl Files + Input), style: Style, revision: &[u8]) {
     let mut name = [0u8; 4096];
     let mut file = [0u8; KEPT_BYTES];
     let mut out = [0u8; 4096];
     let mut tally = [0u64; COUNTERS];
     let begun = Desk { style, at: 0 };
-    let served = serve_list(&mut name, &mut file, revision, &mut out, &mut tally, begun);
+    let served = serve_list(
+        rt, &mut name, &mut file, revision, &mut out, &mut tally, begun,
+    );
     let end = desk_lines::counts::put_counts(&tally, &mut out, served.at);
     texts::write_out(&out, end);
 }
 
-fn main() {
+fn main(rt: HostRuntime) {
     let mut revision = [0u8; 128];
     let style = Style {
-        show: is_argument(1, b"show"),
-        quiet: is_argument(2, b"refused"),
-        json: is_argument(1, b"json"),
+        show: is_argument(&rt, 1, b"show"),
+        quiet: is_argument(&rt, 2, b"refused"),
+        json: is_argument(&rt, 1, b"json"),
     };
-    let n = os::arg(3, &mut revision);
-    serve_all(style, &revision[..n]);
+    let n = put_argument(&rt, 3, &mut revision);
+    serve_all(&rt, style, &revision[..n]);
 }

@@ -8,7 +8,6 @@ use lib.Signed.{le_z, non_neg}
 use mir.Syntax.{w32, w64}
 use mir.Val.{to_z, of_z, SFits, Fits}
 use mir.ValLaws.{to_z-of_z}
-use borrow.Author.Rules.{rules}
 use Rattle.desk_files.proofs.error_number.Goals as goal
 
 -- a 32-bit integer from 0 on fits 64 bits

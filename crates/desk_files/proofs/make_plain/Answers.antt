@@ -1,9 +1,6 @@
-use Prim.Native.Nat.{◌-◌, ◌≤◌}
 use native.Mathlib.Omega.{arith}
-use lib.ListN.{length, length-set}
-use mathlib.Core.Path.{◌≡◌}
+use lib.ListN.{length-set}
 use borrow.Author.Rules.{rules}
-use Rattle.desk_files.specs.Names.{Plain}
 use Rattle.desk_files.proofs.Stored.{plain_none, plain_more, plain_all}
 use Rattle.desk_files.proofs.make_plain.Goals as goal
 

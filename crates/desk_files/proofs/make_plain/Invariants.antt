@@ -1,10 +1,7 @@
 use Prim.Native.Nat.{◌-◌, ◌≤◌}
-use native.Mathlib.Omega.{arith}
-use lib.ListN.{length, length-set}
+use lib.ListN.{length}
 use mathlib.Core.Path.{◌≡◌}
-use borrow.Author.Rules.{rules}
 use Rattle.desk_files.specs.Names.{Plain}
-use Rattle.desk_files.proofs.Stored.{plain_none, plain_more, plain_all}
 use Rattle.desk_files.proofs.make_plain.Given as goal
 
 abbrev pub invariant-loop-i : goal.invariant-loop-i

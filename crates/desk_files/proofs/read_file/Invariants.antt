@@ -1,11 +1,10 @@
 use Prim.Native.Nat.{◌-◌, ◌≤◌}
 use lib.ListN.{length}
 use mathlib.Core.Path.{◌≡◌}
-use borrow.Author.Rules.{rules}
 use Rattle.desk_files.proofs.read_file.Given as goal
 
 abbrev pub invariant-loop-n : goal.invariant-loop-n
-invariant-loop-n l = (length l.file ≡ length l.initial.file) × (l.n ≤ length l.file)
+invariant-loop-n g l = (length l.file ≡ length l.initial.file) × (l.n ≤ length l.file)
 
 abbrev pub decreases-loop-n : goal.decreases-loop-n
-decreases-loop-n l = length l.file - l.n
+decreases-loop-n g l = length l.file - l.n

@@ -1,4 +1,4 @@
-use Rattle.std.proofs.Common.{◌≡◌, ◌-◌, length, rules}
+use Rattle.std.proofs.Common.{◌≡◌, ◌-◌, length}
 use Rattle.desk_lines.proofs.put_functions.Given as goal
 
 abbrev pub invariant-loop-f : goal.invariant-loop-f

@@ -1,4 +1,4 @@
-use Rattle.std.proofs.Common.{set, ap, arith, rules}
+use Rattle.std.proofs.Common.{set, ap, arith}
 use Rattle.desk_lines.proofs.counts.count.Goals as goal
 
 pub returns-then-i-tally : goal.returns-then-i-tally

@@ -1,4 +1,4 @@
-use Rattle.std.proofs.Common.{◌≡◌, ◌-◌, length, rules}
+use Rattle.std.proofs.Common.{◌≡◌, ◌-◌, length}
 use Rattle.desk_lines.proofs.counts.put_questions.Given as goal
 
 abbrev pub invariant-loop-q : goal.invariant-loop-q
