@@ -29,7 +29,7 @@ fn stem(path: &Path) -> String {
 fn judge(root: &Path, folder: &Path, edit: &Path) -> io::Result<(usize, Vec<String>)> {
     let place = format!("{}/{}", stem(folder), stem(edit));
     let text = fs::read_to_string(edit)?;
-    let log = fs::read_to_string(root.join("target/must-fail").join(&place).join(".log"))?;
+    let log = fs::read_to_string(root.join("target/must-fail").join(format!("{place}.log")))?;
     let wrong = edit::wrong_programs(&text, &stem(edit));
     let mut objections = Vec::new();
     for program in &wrong {
