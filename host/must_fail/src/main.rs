@@ -1,6 +1,6 @@
 //! Reads what the prover said of each must-fail edit and holds it to each wrong program: refused in its own function, or in the law that a
 //! wrong definition is to break, because a fact fails.
-//! `must_fail ROOT`, after `rt ci` or `rt must-fail` in the repository ROOT.
+//! `must_fail ROOT`, after `tests/edits` in the repository ROOT.
 
 mod edit;
 mod log;
