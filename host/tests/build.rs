@@ -25,7 +25,7 @@ fn main() {
     if asked("PROVED") {
         match std::env::var("PANELRUE_LIB") {
             Ok(name) => link("target/staticlib", &name, "tests/releases"),
-            Err(_) => link("crates/panelrue_c/out", "panelrue_c", "rt lib in crates/panelrue_c"),
+            Err(_) => link("crates/panelrue_c/out", "panelrue_c", "c/port x86-64"),
         }
     }
     if asked("BEFORE") {
