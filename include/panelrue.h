@@ -1,8 +1,8 @@
 /*
  * Panelrue for hosts in C and C++: check, start, run, memory check, look-up, logged run and step back of test procedures.
  *
- * `rt staticlib panelrue_c` proves the library and writes target/staticlib/libpanelrue_c.a, for x86-64; `c/port` makes it for other
- * processors. It needs memcpy and memset (on Arm by the compiler's own names, and on Cortex-M0 its arithmetic; README.md lists them) and
+ * `rt lib --cpu x86-64` in crates/panelrue_c proves the library and writes out/libpanelrue_c.a there, for x86-64; `c/port` makes it for
+ * other processors. It needs memcpy and memset (on Arm by the compiler's own names, and on Cortex-M0 its arithmetic; README.md lists them) and
  * nothing else: no heap, no clock, no file, no global data.
  *
  * What the caller owes, for every call: a pointer is never null, not even with length 0; it points to as many elements as the length

@@ -11,9 +11,10 @@ def git(*words):
 
 
 def walked():
-    """The files of the folder, but those under target."""
+    """The files of the folder, but those under target and those that `rt` makes in a crate's out."""
     for folder, below, names in os.walk(ROOT):
-        below[:] = [name for name in below if name not in ('.git', 'target')]
+        is_crate = os.path.relpath(folder, ROOT).split('/')[:-1] == ['crates']
+        below[:] = [name for name in below if name not in ('.git', 'target') and not (is_crate and name == 'out')]
         yield from (os.path.relpath(os.path.join(folder, name), ROOT) for name in names)
 
 
@@ -28,14 +29,15 @@ def read(path):
 
 
 def bands():
-    """The lines of crates.txt: (band, crate, crates that it lists), from the ground up; the band is empty above the first one."""
+    """The lines of crates.txt: (band, crate, crates that it lists), from the ground up; the band is empty above the first one. A static
+    library has the word `staticlib` behind its name."""
     band = ''
     for line in read('crates.txt').splitlines():
         if line.startswith('#'):
             band = line[1:].strip()
         elif line.strip():
             crate, _, rest = line.partition(':')
-            yield band, crate.strip(), rest.split()
+            yield band, crate.split()[0], rest.split()
 
 
 def heading(text):

@@ -7,10 +7,10 @@ fn asked(feature: &str) -> bool {
     std::env::var_os(format!("CARGO_FEATURE_{feature}")).is_some()
 }
 
-/// Names the archive `<repository>/target/staticlib/lib<name>.a` to the linker, or says what writes it.
-fn link(name: &str, writer: &str) {
+/// Names the archive `lib<name>.a` in a folder of the repository to the linker, or says what writes it.
+fn link(folder: &str, name: &str, writer: &str) {
     let package = PathBuf::from(std::env::var("CARGO_MANIFEST_DIR").unwrap_or_default());
-    let directory = package.join("../../target/staticlib");
+    let directory = package.join("../..").join(folder);
     let archive = directory.join(format!("lib{name}.a"));
     let shown = archive.display();
     assert!(archive.exists(), "the proved library {shown} is not there; `{writer}` writes it");
@@ -23,10 +23,12 @@ fn link(name: &str, writer: &str) {
 fn main() {
     println!("cargo:rerun-if-env-changed=PANELRUE_LIB");
     if asked("PROVED") {
-        let name = std::env::var("PANELRUE_LIB").unwrap_or_else(|_| "panelrue_c".to_string());
-        link(&name, "rt staticlib panelrue_c");
+        match std::env::var("PANELRUE_LIB") {
+            Ok(name) => link("target/staticlib", &name, "tests/releases"),
+            Err(_) => link("crates/panelrue_c/out", "panelrue_c", "c/port x86-64"),
+        }
     }
     if asked("BEFORE") {
-        link("panelrue_before", "tests/releases");
+        link("target/staticlib", "panelrue_before", "tests/releases");
     }
 }

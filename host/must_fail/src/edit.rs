@@ -75,13 +75,18 @@ impl Wrong {
         Wrong { name: name.to_string(), breaks: Vec::new(), pairs: Vec::new() }
     }
 
-    /// The function whose text is changed; none where the change is one of a definition or of a proof.
+    /// The function whose text is changed; none where the change is one of a definition. What is changed in a proof beside it, as the names of
+    /// goals, is not looked at.
     pub fn function(&self, folder: &Path) -> io::Result<Option<String>> {
-        let Some(last) = self.pairs.last().filter(|pair| pair.file.starts_with("src/")) else {
+        let Some(at) = self.pairs.iter().rposition(|pair| !pair.file.starts_with("proofs/")) else {
             return Ok(None);
         };
+        let last = &self.pairs[at];
+        if !last.file.starts_with("src/") {
+            return Ok(None);
+        }
         let mut text = fs::read_to_string(folder.join(&last.file))?;
-        for pair in &self.pairs[..self.pairs.len() - 1] {
+        for pair in &self.pairs[..at] {
             if pair.file == last.file {
                 text = text.replacen(&pair.old, &pair.new, 1);
             }

@@ -5,20 +5,17 @@ use std::fs;
 use std::path::Path;
 
 /// Words of an error that says that the proof no longer has the form that the code asks for, not that a fact fails.
-const MISFIT: [&str; 6] = [
-    "has no `",
-    "has no field `",
-    "is not a field of",
-    "is not in scope",
-    " components",
-    "expected type `tie.Need-",
-];
+const MISFIT: [&str; 5] =
+    ["has no `", "has no field `", "is not a field of", "is not in scope", " components"];
 
-/// How errors of a loop's invariant and measure begin, whose variables are those of the code.
-const LOOP: [&str; 2] = [": error: `Inv-", ": error: `μ-"];
+/// Where a loop's invariants and measures are written, whose variables are those of the code: an error there is a misfit.
+const LOOP: &str = "/Invariants.antt:";
 
 /// Words of an error that only follows from another.
-const FOLLOWS: &str = "was not admitted";
+const FOLLOWS: [&str; 3] = ["was not admitted", "was rejected", "not checked"];
+
+/// Words of a verdict by which a fact fails that the prover's tactics find by themselves in the right program.
+const UNFOUND: &str = "did not prove";
 
 /// Why a wrong definition does not count as refused; none where each law that it is to break does break by itself, on the line that is named.
 pub fn law_objection(log: &str, laws: &[Law], folder: &Path) -> Option<String> {
@@ -44,7 +41,7 @@ fn breaks(log: &str, law: &Law, folder: &Path) -> bool {
         let file = parts.next().unwrap_or("");
         file.ends_with(&format!("/{}", law.file))
             && said.starts_with(&format!("`{}`: ", law.name))
-            && !said.contains(FOLLOWS)
+            && !follows(said)
             && !MISFIT.iter().any(|words| said.contains(words))
             && number > 0
             && lines.get(number - 1).is_some_and(|text| text.contains(&law.words))
@@ -57,7 +54,7 @@ pub fn objection(log: &str, function: &str) -> Option<String> {
         None => return Some(format!("the prover does not speak of {function}")),
         Some(said) if said == "proved" => return Some(format!("{function} is proved")),
         Some(said) if said.starts_with("no proof") => {
-            let fails = said.contains("does not close");
+            let fails = said.contains(UNFOUND);
             return (!fails).then(|| format!("no fact of {function} fails: {}", short(said)));
         }
         Some(_) => {}
@@ -65,12 +62,17 @@ pub fn objection(log: &str, function: &str) -> Option<String> {
     let own: Vec<&str> =
         log.lines().filter(|line| is_error(line) && is_of(line, function)).collect();
     if let Some(line) =
-        own.iter().find(|line| MISFIT.iter().chain(&LOOP).any(|words| line.contains(words)))
+        own.iter().find(|line| MISFIT.iter().chain([&LOOP]).any(|words| line.contains(words)))
     {
         return Some(format!("a misfit: {}", short(line)));
     }
-    let fails = own.iter().any(|line| !line.contains(FOLLOWS));
+    let fails = own.iter().any(|line| !follows(line));
     (!fails).then(|| format!("no fact of {function} fails"))
+}
+
+/// Whether an error only follows from another.
+fn follows(line: &str) -> bool {
+    FOLLOWS.iter().any(|words| line.contains(words))
 }
 
 /// The prover's verdict on a function.
@@ -128,18 +130,18 @@ mod tests {
 
     #[test]
     fn a_law_that_breaks_by_itself_counts() {
-        assert!(!objected("own", "and-false", "/t/proofs/Keep.antt:3:5: error: `keep`: 1 ≟ 2"));
+        assert!(!objected("own", "and-false", "./proofs/Keep.antt:3:5: error: `keep`: 1 ≟ 2"));
     }
 
     #[test]
     fn a_law_that_rests_on_another_does_not_count() {
-        let log = "/t/proofs/Keep.antt:3:5: error: `keep`: `sound` was not admitted, so";
+        let log = "./proofs/Keep.antt:3:5: error: `keep`: `sound` was rejected, so";
         assert!(objected("follows", "and-false", log));
     }
 
     #[test]
     fn another_line_or_law_does_not_count() {
-        let log = "/t/proofs/Keep.antt:3:5: error: `keep`: 1 ≟ 2";
+        let log = "./proofs/Keep.antt:3:5: error: `keep`: 1 ≟ 2";
         assert!(objected("line", "and-true", log));
         assert!(objected("law", "and-false", &log.replace("`keep`", "`kept`")));
         assert!(objected("file", "and-false", &log.replace("Keep", "Kept")));
@@ -147,14 +149,14 @@ mod tests {
 
     #[test]
     fn a_misfit_does_not_count() {
-        let log = "/t/proofs/Keep.antt:3:5: error: `keep`: record `R` has no field `x`";
+        let log = "./proofs/Keep.antt:3:5: error: `keep`: record `R` has no field `x`";
         assert!(objected("misfit", "and-false", log));
     }
 
     #[test]
     fn a_definition_that_is_not_admitted_does_not_count() {
-        let log = "/t/specs/Fit.antt:3:5: error: `Fit`: `tInt` is not in scope\n\
-                   /t/proofs/Keep.antt:3:5: error: `keep`: 1 ≟ 2";
+        let log = "./specs/Fit.antt:3:5: error: `Fit`: `tInt` is not in scope\n\
+                   ./proofs/Keep.antt:3:5: error: `keep`: 1 ≟ 2";
         assert!(objected("specs", "and-false", log));
     }
 
@@ -165,10 +167,25 @@ mod tests {
 
     #[test]
     fn a_function_counts_where_a_fact_of_its_own_fails() {
-        let own = "fn c::f: not proved\n/t/proofs/f/Proof.antt:3:5: error: `returns`: 1 ≟ 2";
+        let own = "fn c::f: not proved\n./proofs/f/Answers.antt:3:5: error: `returns`: 1 ≟ 2";
         assert!(objection(own, "f").is_none());
         assert!(objection("fn c::f: proved", "f").is_some());
         assert!(objection("fn c::g: not proved", "f").is_some());
         assert!(objection("fn c::f: not proved; it calls `c::g`", "f").is_some());
+    }
+
+    #[test]
+    fn a_fact_that_the_tactics_do_not_find_counts() {
+        let said = "fn c::f: no proof: expected answers in ./proofs/f/Answers.antt; `search` did not prove `returns`";
+        assert!(objection(said, "f").is_none());
+        assert!(objection("fn c::f: no proof: it calls `c::g`, which is not proved", "f").is_some());
+    }
+
+    #[test]
+    fn an_invariant_that_no_longer_reads_does_not_count() {
+        let log = "fn c::f: not proved\n\
+                   ./proofs/f/Invariants.antt:3:5: error: `loop`: 1 ≟ 2\n\
+                   ./proofs/f/Answers.antt:3:5: error: `returns`: 1 ≟ 2";
+        assert!(objection(log, "f").is_some());
     }
 }

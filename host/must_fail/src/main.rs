@@ -1,6 +1,6 @@
 //! Reads what the prover said of each must-fail edit and holds it to each wrong program: refused in its own function, or in the law that a
 //! wrong definition is to break, because a fact fails.
-//! `must_fail ROOT`, after `rt ci` or `rt must-fail` in the repository ROOT.
+//! `must_fail ROOT`, after `tests/edits` in the repository ROOT.
 
 mod edit;
 mod log;
@@ -29,7 +29,7 @@ fn stem(path: &Path) -> String {
 fn judge(root: &Path, folder: &Path, edit: &Path) -> io::Result<(usize, Vec<String>)> {
     let place = format!("{}/{}", stem(folder), stem(edit));
     let text = fs::read_to_string(edit)?;
-    let log = fs::read_to_string(root.join("target/must-fail").join(&place).join(".log"))?;
+    let log = fs::read_to_string(root.join("target/must-fail").join(format!("{place}.log")))?;
     let wrong = edit::wrong_programs(&text, &stem(edit));
     let mut objections = Vec::new();
     for program in &wrong {
