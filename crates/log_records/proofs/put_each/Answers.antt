@@ -17,8 +17,8 @@ put_change-requires c = put_room c.loop-i.invariant c.loop-i-test.true c.require
 pub loop-i-preserved : goal.loop-i-preserved
 loop-i-preserved c =
     elim c.if-old-new.branch
-    [ then-old-new w ↦ other_put c.loop-i.invariant c.loop-i-test.true c.requires.0 _ _ _ (w.next-is ∙ w.put_change.ensures) w.log-is w.a-is w.if-old-new.true
-    | else-old-new w ↦ same_put c.loop-i.invariant c.loop-i-test.true c.requires.0 w.if-old-new.false _ _ _ w.next-is w.log-is w.a-is
+    [ then-old-new w ↦ other_put c.loop-i.invariant c.loop-i-test.true c.requires.0 _ _ _ (w.log-is ∙ w.put_change.ensures) w.a-is w.next-is w.if-old-new.true
+    | else-old-new w ↦ same_put c.loop-i.invariant c.loop-i-test.true c.requires.0 w.if-old-new.false _ _ _ w.log-is w.a-is w.next-is
     ]
 
 pub returns : goal.returns
