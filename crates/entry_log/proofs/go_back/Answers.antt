@@ -7,6 +7,7 @@ use Rattle.spec_log.specs.Records.{earlier}
 use Rattle.run_loop.proofs.Holding.{words_held}
 use Rattle.entry_log.proofs.Backs.{unfit, stood, elsewhere, leads_back_lem}
 use borrow.Author.Rules.{rules}
+use Rattle.entry_log.proofs.go_back.Goals.{then-ran-eq0-via-then-ran-eq0, then-ran-eq0-via-else-ran-eq0+then-not-is_same}
 use Rattle.entry_log.proofs.go_back.Goals as goal
 
 pub slice_bounds-copy-end-3 : goal.slice_bounds-copy-end-3
@@ -17,7 +18,7 @@ copy-requires c = sym (length-take-le size c.args.m.now c.requires.1)
 
 pub returns-then-not-holds_fit : goal.returns-then-not-holds_fit
 returns-then-not-holds_fit c = let e = c.restore.ensures ∙ ap (earlier _ _) c.copy.ensures in
-    unfit _ _ _ _ c.requires.2 c.requires.1 _ e (sym c.holds_fit.ensures ∙ not-true _ c.if-not-holds_fit.true-raw)
+    let q = unfit _ _ _ _ c.requires.2 c.requires.1 _ e (sym c.holds_fit.ensures ∙ not-true _ c.if-not-holds_fit.true-raw) in record { answer = q.0; memory = q.1 }
 
 pub run-ran-requires : goal.run-ran-requires
 run-ran-requires c = (words_held _ _ c.requires.0.passed (sym c.holds_fit.ensures ∙ not-false _ c.if-not-holds_fit.false-raw), search rules)
@@ -31,10 +32,10 @@ is_same-requires c = let e = length-take-le size c.args.m.now c.requires.1 in se
 pub returns-then-ran-eq0 : goal.returns-then-ran-eq0
 returns-then-ran-eq0 c = let e = c.restore.ensures ∙ ap (earlier _ _) c.copy.ensures in
     let f = sym c.holds_fit.ensures ∙ not-false _ c.if-not-holds_fit.false-raw in
-    ⊎_elim
-    (λ w. stood _ _ _ _ c.requires.2 c.requires.1 _ e f _ _ _ c.run-ran.ensures w.taken)
-    (λ w. elsewhere _ _ _ _ c.requires.2 c.requires.1 _ e f _ _ _ c.run-ran.ensures w.0.left (sym w.3.ensures ∙ not-true _ w.4.taken))
-    c.then-ran-eq0.branch
+    elim c.then-ran-eq0.branch
+    [ then-ran-eq0-via-then-ran-eq0 w ↦ let q = stood _ _ _ _ c.requires.2 c.requires.1 _ e f _ _ _ c.run-ran.ensures w.if-ran-eq0.true in record { answer = q.0; memory = q.1 }
+    | then-ran-eq0-via-else-ran-eq0+then-not-is_same w ↦ let q = elsewhere _ _ _ _ c.requires.2 c.requires.1 _ e f _ _ _ c.run-ran.ensures w.if-ran-eq0.false (sym w.is_same.ensures ∙ not-true _ w.if-not-is_same.true-raw) in record { answer = q.0; memory = q.1 }
+    ]
 
 pub slice_bounds-restore-end-3 : goal.slice_bounds-restore-end-3
 slice_bounds-restore-end-3 c = sym (length-take-le size c.args.m.now c.requires.1)
@@ -45,4 +46,4 @@ restore-requires-2 c = (c.requires.2, length-take-le size c.args.m.now c.require
 pub returns : goal.returns
 returns c = let e = c.restore.ensures ∙ ap (earlier _ _) c.copy.ensures in
     let f = sym c.holds_fit.ensures ∙ not-false _ c.if-not-holds_fit.false-raw in
-    leads_back_lem _ _ _ _ c.requires.2 c.requires.1 _ e f _ _ _ c.run-ran.ensures c.if-ran-eq0.false (sym c.is_same.ensures ∙ not-false _ c.if-not-is_same.false-raw) _ c.restore-2.ensures
+    let q = leads_back_lem _ _ _ _ c.requires.2 c.requires.1 _ e f _ _ _ c.run-ran.ensures c.if-ran-eq0.false (sym c.is_same.ensures ∙ not-false _ c.if-not-is_same.false-raw) _ c.restore-2.ensures in record { answer = q.0; memory = q.1 }

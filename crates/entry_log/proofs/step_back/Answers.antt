@@ -5,6 +5,7 @@ use borrow.Author.Tests.{not-true, not-false}
 use Rattle.check_file.specs.Answers.{says}
 use Rattle.entry_log.proofs.Backs.{back_early, no_record, record_within, may_go, not_back, went_back_lem}
 use borrow.Author.Rules.{rules}
+use Rattle.entry_log.proofs.step_back.Goals.{then-bytes-eq0-via-then-bytes-eq0, then-bytes-eq0-via-else-bytes-eq0+then-not-go_back}
 use Rattle.entry_log.proofs.step_back.Goals as goal
 
 pub returns-in-Refused : goal.returns-in-Refused
@@ -16,15 +17,17 @@ unfolding says
 go_back-requires c = may_go _ _ _ _ (sym c.check_memory.ensures.answer ∙ ap says c.in_default.is) _ c.last_bytes-bytes.ensures c.if-bytes-eq0.false
 
 pub shape_of-m-then-bytes-eq0 : goal.shape_of-m-then-bytes-eq0
-shape_of-m-then-bytes-eq0 c = ⊎_elim (λ w. ap length w.1) (λ w. ap length w.6 ∙ w.3.given) c.then-bytes-eq0.branch
+shape_of-m-then-bytes-eq0 c =
+    elim c.then-bytes-eq0.branch
+    [ then-bytes-eq0-via-then-bytes-eq0 w ↦ ap length w.m-is | then-bytes-eq0-via-else-bytes-eq0+then-not-go_back w ↦ ap length w.m-is ∙ w.go_back.auto.m ]
 
 pub returns-then-bytes-eq0 : goal.returns-then-bytes-eq0
 unfolding says
 returns-then-bytes-eq0 c = let e = sym c.check_memory.ensures.answer ∙ ap says c.in_default.is in
-    let q = ⊎_elim
-    (λ w. no_record _ _ _ _ e _ c.last_bytes-bytes.ensures w.0.taken c.then-bytes-eq0.m w.1)
-    (λ w. not_back _ _ _ _ e _ c.last_bytes-bytes.ensures w.0.left _ _ w.2.ensures.0 w.2.ensures.1 (not-true _ w.5.taken) c.then-bytes-eq0.m w.6)
-    c.then-bytes-eq0.branch in record { answer = q.0; small = (search rules, search rules); memory = q.1 }
+    elim c.then-bytes-eq0.branch
+    [ then-bytes-eq0-via-then-bytes-eq0 w ↦ let q = no_record _ _ _ _ e _ c.last_bytes-bytes.ensures w.if-bytes-eq0.true c.then-bytes-eq0.m w.m-is in record { answer = q.0; small = (search rules, search rules); memory = q.1 }
+    | then-bytes-eq0-via-else-bytes-eq0+then-not-go_back w ↦ let q = not_back _ _ _ _ e _ c.last_bytes-bytes.ensures w.if-bytes-eq0.false _ _ w.go_back.ensures.answer w.go_back.ensures.memory (not-true _ w.if-not-go_back.true-raw) c.then-bytes-eq0.m w.m-is in record { answer = q.0; small = (search rules, search rules); memory = q.1 }
+    ]
 
 pub overflow_sub-result : goal.overflow_sub-result
 unfolding says

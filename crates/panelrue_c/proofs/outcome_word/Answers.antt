@@ -6,7 +6,7 @@ use Rattle.panelrue_c.proofs.outcome_word.Goals as goal
 
 pub returns-in-Value : goal.returns-in-Value
 unfolding outcome_word
-returns-in-Value c = rw (c.bits.ensures, to_z-of_z w32 _ (record { sfits = c.in-Value.known_told_1_own.given.0.1 }), c.in-Value.is)
+returns-in-Value c = rw (c.bits.ensures, to_z-of_z w32 _ (record { sfits = c.in-Value.known_told-1-own.given.0.1 }), c.in-Value.is)
 
 pub returns-in-Arith : goal.returns-in-Arith
 unfolding outcome_word

@@ -14,7 +14,7 @@ returns-in-Nothing c = let e = sym c.look_up.ensures.answer ∙ c.in-Nothing.is 
 
 pub returns-in-Int : goal.returns-in-Int
 unfolding look_number look_words
-returns-in-Int c = let e = sym c.look_up.ensures.answer ∙ c.in-Int.is in record { number = rw e; told = rw e (c.tell_look-in-Int.ensures ∙ rw (c.bits.ensures, to_z-of_z w32 _ (record { sfits = c.in-Int.known_told_1_own.given.0.1 }))) }
+returns-in-Int c = let e = sym c.look_up.ensures.answer ∙ c.in-Int.is in record { number = rw e; told = rw e (c.tell_look-in-Int.ensures ∙ rw (c.bits.ensures, to_z-of_z w32 _ (record { sfits = c.in-Int.known_told-1-own.given.0.1 }))) }
 
 pub returns-in-Truth : goal.returns-in-Truth
 unfolding look_number look_words
