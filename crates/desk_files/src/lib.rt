@@ -71,7 +71,7 @@ fn content_at<R: Files>(rt: &R, path: &str, file: &mut [u8]) -> Content
     }
 }
 
-// Reads descriptor 3, which is a bad descriptor where it is not open.
+// Opens descriptor 3 anew and reads it: a pipe from where it stands, a file from its start. It is a bad descriptor where it is not open.
 fn content_of_dash<R: Files>(rt: &R, file: &mut [u8]) -> Content
     ensures { Inside result (length file.new) }
 {

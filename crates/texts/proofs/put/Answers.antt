@@ -1,8 +1,5 @@
-use Prim.Native.Nat.{◌-◌}
 use native.Mathlib.Omega.{arith}
-use lib.ListN.{length}
-use borrow.Author.Rules.{rules}
-use Rattle.texts.proofs.Waiting.{Waits, begun, stored, ended, nowhere}
+use Rattle.texts.proofs.Waiting.{begun, stored, ended, nowhere}
 use Rattle.texts.proofs.put.Goals as goal
 
 pub loop-i-init : goal.loop-i-init

@@ -1,8 +1,6 @@
 use Prim.Native.Nat.{◌-◌}
-use native.Mathlib.Omega.{arith}
 use lib.ListN.{length}
-use borrow.Author.Rules.{rules}
-use Rattle.texts.proofs.Waiting.{Waits, begun, stored, ended, nowhere}
+use Rattle.texts.proofs.Waiting.{Waits}
 use Rattle.texts.proofs.put.Given as goal
 
 abbrev pub invariant-loop-i : goal.invariant-loop-i
