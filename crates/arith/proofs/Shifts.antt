@@ -4,7 +4,6 @@ use mathlib.Core.Bool.{and-false}
 use lib.Dec.{leb-suc-zero}
 use lib.Signed.{lt_z}
 use Rattle.varset.specs.Lowest.{pick}
-use Rattle.arith.specs.Int.{int}
 use Rattle.arith.specs.Operators.{shl_of, shr_of, no_shift, shifted, results, applied}
 use Rattle.arith.specs.declared.Applied.TheVariants.{Int, Arith}
 use Rattle.arith.proofs.WordInts.{Read, low, high, reading}

@@ -1,20 +1,19 @@
 -- Question 13 finds what it finds where each return is its expression and then an assign of every variable of the function.
-use mathlib.Core.Path.{◌≡◌, refl, sym}
-use mathlib.Core.Bool.{true, ◌||◌}
+use mathlib.Core.Path.{◌≡◌, refl}
+use mathlib.Core.Bool.{true}
 use mathlib.Core.List.{List, []}
 use mathlib.Core.Logic.{◌⊎◌, inl, inr, ⊎_elim}
 use Prim.Native.Nat.{ℕ, zero, suc, ◌-◌, ◌≤◌, ◌<◌}
 use native.Mathlib.Omega.{arith}
-use lib.Dec.{eqb, ltb}
-use borrow.Author.Tests.{eqb-true, eqb-false, eq-eqb, ltb-true, lt-ltb}
+use lib.Dec.{eqb}
+use borrow.Author.Tests.{eqb-true, eqb-false, ltb-true, lt-ltb}
 use Rattle.varset.specs.Sets.{Set, none, with, without, both, either, less, below, Sub}
 use Rattle.records.specs.Format.{most_variables}
-use Rattle.records.specs.Fields.{functions, params_of, vars_of, count_of, kind_at, a_at, b_at}
+use Rattle.records.specs.Fields.{functions, params_of, vars_of, count_of, a_at, b_at}
 use Rattle.records.specs.Parts.{part_of}
-use Rattle.records.specs.declared.Found.TheVariants.{Nothing}
-use Rattle.records.proofs.Bools.{both_mono, either_mono, and_both, or_more, or_last, or_cases, by}
+use Rattle.records.proofs.Bools.{both_mono, either_mono, or_more, or_last, or_cases, by}
 use Rattle.spec_language.specs.Statements.{Read, Statement, Nop, Seq, Assign, Decl, If, While, Return, Assert, Expr, statement_at}
-use Rattle.spec_language.specs.Flow.{declares, leaves, lacks}
+use Rattle.spec_language.specs.Flow.{declares, leaves}
 use Rattle.spec_language.proofs.Facts.{function_is, decl_fields}
 use Rattle.spec_language.proofs.Accept.{Accepted, parts}
 use Rattle.spec_language.proofs.Typings.{fields_at}

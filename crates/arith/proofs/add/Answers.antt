@@ -1,4 +1,4 @@
-use Rattle.std.proofs.Common.{sym, ◌∙◌, rules}
+use Rattle.std.proofs.Common.{sym, ◌∙◌}
 use Rattle.arith.proofs.Sums.{add_law}
 use Rattle.arith.proofs.add.Goals as goal
 

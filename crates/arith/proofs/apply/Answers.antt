@@ -1,6 +1,5 @@
 use Rattle.arith.specs.Operators.{and_of, or_of, xor_of, lt_of, le_of, gt_of, ge_of, eq_of, ne_of, results, applied}
 use Rattle.arith.proofs.Numbers.{no_operator}
-use Rattle.std.proofs.Common.{rules}
 use native.Mathlib.Omega.{arith}
 use Rattle.arith.proofs.apply.Goals as goal
 

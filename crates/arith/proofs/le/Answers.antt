@@ -1,6 +1,5 @@
 use Rattle.arith.specs.Operators.{le_of}
 use Rattle.arith.proofs.Casts.{stored}
-use Rattle.std.proofs.Common.{rules}
 use Rattle.arith.proofs.le.Goals as goal
 
 pub returns : goal.returns

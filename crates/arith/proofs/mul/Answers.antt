@@ -1,4 +1,4 @@
-use Rattle.std.proofs.Common.{sym, rules}
+use Rattle.std.proofs.Common.{sym}
 use Rattle.arith.proofs.Sums.{mul_law, mul_below}
 use Rattle.arith.proofs.mul.Goals as goal
 

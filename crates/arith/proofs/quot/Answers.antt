@@ -1,4 +1,4 @@
-use Rattle.std.proofs.Common.{sym, ◌∙◌, rules}
+use Rattle.std.proofs.Common.{sym, ◌∙◌}
 use lib.Signed.{quot_z}
 use Rattle.arith.specs.Operators.{quot_of}
 use Rattle.arith.proofs.Divisions.{raised, asked, divided_is, quot_fits}

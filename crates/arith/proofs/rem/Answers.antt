@@ -1,4 +1,4 @@
-use Rattle.std.proofs.Common.{sym, ◌∙◌, rules}
+use Rattle.std.proofs.Common.{sym, ◌∙◌}
 use lib.Signed.{rem_z}
 use Rattle.arith.specs.Operators.{rem_of}
 use Rattle.arith.proofs.Divisions.{raised, asked, divided_is, rem-fits}

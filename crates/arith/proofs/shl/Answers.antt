@@ -1,4 +1,4 @@
-use Rattle.std.proofs.Common.{sym, ap, ◌∙◌, rules}
+use Rattle.std.proofs.Common.{sym, ap, ◌∙◌}
 use Rattle.arith.specs.declared.Applied.TheVariants.{Int}
 use Rattle.arith.proofs.Shifts.{shift_raises, shift_gives}
 use Rattle.arith.proofs.Sums.{shl_law}

@@ -1,4 +1,4 @@
-use Rattle.std.proofs.Common.{sym, ◌∙◌, rules}
+use Rattle.std.proofs.Common.{sym, ◌∙◌}
 use Rattle.arith.proofs.Divisions.{shifted_is}
 use Rattle.arith.proofs.Shifts.{shift_raises, shift_gives}
 use Rattle.arith.proofs.shr.Goals as goal

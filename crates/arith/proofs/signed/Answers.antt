@@ -1,4 +1,4 @@
-use Rattle.std.proofs.Common.{w32, w64, rules}
+use Rattle.std.proofs.Common.{w32, w64}
 use mir.ValLaws.{to_z-of_z}
 use Rattle.arith.proofs.Casts.{low_cast, minus_all, sfits_64}
 use Rattle.arith.proofs.WordInts.{int_fits}

@@ -1,5 +1,4 @@
 use Rattle.arith.proofs.Sums.{sub_law}
-use Rattle.std.proofs.Common.{rules}
 use Rattle.arith.proofs.sub.Goals as goal
 
 pub returns : goal.returns

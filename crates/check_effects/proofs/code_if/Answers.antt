@@ -1,5 +1,4 @@
 use native.Mathlib.Omega.{arith}
-use borrow.Author.Rules.{rules}
 use Rattle.check_effects.proofs.code_if.Goals as goal
 
 pub returns-else-passes : goal.returns-else-passes

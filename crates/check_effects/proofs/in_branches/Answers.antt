@@ -1,6 +1,5 @@
 use mathlib.Core.Path.{◌∙◌}
 use Rattle.check_effects.proofs.EffectParts.{branches_means}
-use borrow.Author.Rules.{rules}
 use Rattle.check_effects.proofs.in_branches.Goals as goal
 
 pub returns : goal.returns

@@ -1,6 +1,5 @@
 use native.Mathlib.Omega.{arith}
 use Rattle.check_effects.proofs.EffectParts.{loop_means}
-use borrow.Author.Rules.{rules}
 use Rattle.check_effects.proofs.in_loop.Goals as goal
 
 pub returns : goal.returns

@@ -1,7 +1,6 @@
 use mathlib.Core.Path.{sym, ◌∙◌}
 use borrow.Author.Tests.{not-true}
 use Rattle.check_effects.proofs.EffectParts.{scope_means}
-use borrow.Author.Rules.{rules}
 use Rattle.check_effects.proofs.in_scope.Goals as goal
 
 pub returns : goal.returns

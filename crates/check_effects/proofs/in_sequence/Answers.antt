@@ -1,6 +1,5 @@
 use mathlib.Core.Path.{sym, ◌∙◌}
 use Rattle.check_effects.proofs.EffectParts.{sequence_means}
-use borrow.Author.Rules.{rules}
 use Rattle.check_effects.proofs.in_sequence.Goals as goal
 
 pub returns : goal.returns

@@ -1,4 +1,3 @@
-use borrow.Author.Rules.{rules}
 use borrow.Author.Tests.{ne_eqb}
 use Rattle.check_effects.specs.Effects.{return_code}
 use Rattle.check_effects.proofs.of_expression.Goals as goal

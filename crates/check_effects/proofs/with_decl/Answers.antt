@@ -1,6 +1,5 @@
 use Rattle.check_effects.proofs.Covering.{inserted}
 use native.Mathlib.Omega.{arith}
-use borrow.Author.Rules.{rules}
 use Rattle.check_effects.proofs.with_decl.Goals as goal
 
 pub insert-requires : goal.insert-requires

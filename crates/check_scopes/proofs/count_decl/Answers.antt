@@ -1,5 +1,4 @@
 use mathlib.Core.Path.{refl, sym, ◌∙◌}
-use borrow.Author.Rules.{rules}
 use Rattle.check_scopes.proofs.Decls.{counts_other, counts_again, counts_new}
 use Rattle.check_scopes.proofs.count_decl.Goals as goal
 

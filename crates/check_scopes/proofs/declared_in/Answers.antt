@@ -1,8 +1,6 @@
-use Prim.Native.Nat.{◌≤◌, ◌-◌}
 use native.Mathlib.Nat.{le_antisymm}
 use borrow.Author.Rules.{rules}
 use Rattle.check_scopes.proofs.Decls.{counts_none, decl_known}
-use Rattle.check_scopes.specs.Counts.{Counts}
 use Rattle.check_scopes.proofs.declared_in.Goals as goal
 
 pub loop-i-init : goal.loop-i-init

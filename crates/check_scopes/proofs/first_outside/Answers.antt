@@ -1,9 +1,7 @@
 use mathlib.Core.Path.{sym, ◌∙◌}
-use Prim.Native.Nat.{◌≤◌, ◌-◌}
 use borrow.Author.Count.{below_none, below_more}
 use borrow.Author.Rules.{rules}
-use Rattle.spec_language.specs.Nodes.{outside}
-use Rattle.records.proofs.Loops.{Below, first-at, first-none}
+use Rattle.records.proofs.Loops.{first-at, first-none}
 use Rattle.check_scopes.proofs.first_outside.Goals as goal
 
 pub loop-i-init : goal.loop-i-init

@@ -1,9 +1,6 @@
-use mathlib.Core.Path.{sym, ◌∙◌}
 use Prim.Native.Nat.{◌≤◌, ◌-◌}
-use borrow.Author.Count.{below_none, below_more}
-use borrow.Author.Rules.{rules}
 use Rattle.spec_language.specs.Nodes.{outside}
-use Rattle.records.proofs.Loops.{Below, first-at, first-none}
+use Rattle.records.proofs.Loops.{Below}
 use Rattle.check_scopes.proofs.first_outside.Given as goal
 
 abbrev pub invariant-loop-i : goal.invariant-loop-i

@@ -1,4 +1,3 @@
-use borrow.Author.Rules.{rules}
 use Rattle.spec_language.specs.Scopes.{under}
 use Rattle.check_scopes.proofs.is_under.Goals as goal
 

@@ -1,6 +1,5 @@
 use mathlib.Core.Path.{sym, ◌∙◌}
 use Rattle.check_scopes.proofs.Decls.{noted_other, noted_more}
-use borrow.Author.Rules.{rules}
 use Rattle.check_scopes.proofs.note_decl.Goals as goal
 
 pub bounds-table-x : goal.bounds-table-x

@@ -1,5 +1,4 @@
 use borrow.Author.Tests.{lt-ltb, le-ltb}
-use borrow.Author.Rules.{rules}
 use Rattle.check_shape.proofs.call_ok.Goals as goal
 
 pub returns-then-callee-function_count : goal.returns-then-callee-function_count

@@ -1,5 +1,4 @@
 use borrow.Author.Tests.{ne_eqb}
-use borrow.Author.Rules.{rules}
 use Rattle.check_shape.specs.Failing.{fails}
 use Rattle.check_shape.proofs.fails_at.Goals as goal
 

@@ -1,4 +1,3 @@
-use borrow.Author.Rules.{rules}
 use Rattle.spec_language.specs.Nodes.{fields, fields_ok}
 use Rattle.check_shape.proofs.Fields.{past_five, fields_rest, fields_high}
 use Rattle.check_shape.proofs.fields_ok.Goals as goal

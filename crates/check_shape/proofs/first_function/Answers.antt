@@ -1,10 +1,8 @@
-use Prim.Native.Nat.{◌-◌, ◌≤◌}
 use mathlib.Core.Path.{sym, ap, ◌∙◌}
 use mathlib.Core.Bool.{not}
 use borrow.Author.Count.{below_none, below_more}
 use borrow.Author.Rules.{rules}
-use Rattle.records.proofs.Loops.{Below, first-at, first-none}
-use Rattle.spec_language.specs.Records.{function_ok}
+use Rattle.records.proofs.Loops.{first-at, first-none}
 use Rattle.check_shape.proofs.first_function.Goals as goal
 
 pub loop-f-init : goal.loop-f-init

@@ -1,9 +1,6 @@
 use Prim.Native.Nat.{◌-◌, ◌≤◌}
-use mathlib.Core.Path.{sym, ap, ◌∙◌}
 use mathlib.Core.Bool.{not}
-use borrow.Author.Count.{below_none, below_more}
-use borrow.Author.Rules.{rules}
-use Rattle.records.proofs.Loops.{Below, first-at, first-none}
+use Rattle.records.proofs.Loops.{Below}
 use Rattle.spec_language.specs.Records.{function_ok}
 use Rattle.check_shape.proofs.first_function.Given as goal
 

@@ -1,9 +1,7 @@
-use Prim.Native.Nat.{◌-◌, ◌≤◌}
 use mathlib.Core.Path.{sym, ◌∙◌}
 use borrow.Author.Count.{below_none, below_more}
 use borrow.Author.Rules.{rules}
-use Rattle.records.proofs.Loops.{Below, first-at, first-none}
-use Rattle.check_shape.specs.Failing.{fails}
+use Rattle.records.proofs.Loops.{first-at, first-none}
 use Rattle.check_shape.proofs.first_node.Goals as goal
 
 pub loop-i-init : goal.loop-i-init

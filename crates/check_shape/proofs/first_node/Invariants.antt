@@ -1,8 +1,5 @@
 use Prim.Native.Nat.{◌-◌, ◌≤◌}
-use mathlib.Core.Path.{sym, ◌∙◌}
-use borrow.Author.Count.{below_none, below_more}
-use borrow.Author.Rules.{rules}
-use Rattle.records.proofs.Loops.{Below, first-at, first-none}
+use Rattle.records.proofs.Loops.{Below}
 use Rattle.check_shape.specs.Failing.{fails}
 use Rattle.check_shape.proofs.first_node.Given as goal
 

@@ -1,4 +1,3 @@
-use borrow.Author.Rules.{rules}
 use Rattle.spec_language.specs.Records.{within, function_ok}
 use Rattle.check_shape.proofs.function_ok.Goals as goal
 

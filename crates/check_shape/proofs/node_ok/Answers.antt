@@ -1,4 +1,3 @@
-use borrow.Author.Rules.{rules}
 use Rattle.spec_language.specs.Nodes.{node_ok}
 use Rattle.check_shape.proofs.node_ok.Goals as goal
 

@@ -1,4 +1,3 @@
-use borrow.Author.Rules.{rules}
 use Rattle.records.specs.Children.{children}
 use Rattle.spec_language.specs.Nodes.{size_ok}
 use Rattle.check_shape.proofs.size_ok.Goals as goal

@@ -1,10 +1,4 @@
-use Prim.Native.Nat.{◌+◌, ◌*◌, ◌≤◌}
-use mathlib.Core.Path.{◌≡◌}
-use lib.ListN.{length}
 use borrow.Author.Rules.{rules}
-use Rattle.records.specs.Fields.{size_at}
-use Rattle.records.specs.Children.{walk}
-use Rattle.spec_language.specs.Nodes.{total}
 use Rattle.check_shape.proofs.Sizes.{sum_step, sum_end}
 use Rattle.check_shape.proofs.total_size.Goals as goal
 

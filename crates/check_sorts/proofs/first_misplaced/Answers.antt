@@ -1,9 +1,7 @@
-use Prim.Native.Nat.{◌-◌, ◌≤◌}
-use mathlib.Core.Path.{◌≡◌, ◌∙◌}
+use mathlib.Core.Path.{◌∙◌}
 use borrow.Author.Rules.{rules}
-use Rattle.varset.specs.Lowest.{lowest}
 use Rattle.records.proofs.Loops.{lowest_le}
-use Rattle.check_sorts.proofs.LowestMisplaced.{seen, body_seen, parent_step, seen_at, seen_none}
+use Rattle.check_sorts.proofs.LowestMisplaced.{body_seen, parent_step, seen_at, seen_none}
 use Rattle.check_sorts.proofs.first_misplaced.Goals as goal
 
 pub loop-q-init : goal.loop-q-init

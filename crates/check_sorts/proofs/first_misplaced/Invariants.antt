@@ -1,9 +1,7 @@
 use Prim.Native.Nat.{◌-◌, ◌≤◌}
-use mathlib.Core.Path.{◌≡◌, ◌∙◌}
-use borrow.Author.Rules.{rules}
+use mathlib.Core.Path.{◌≡◌}
 use Rattle.varset.specs.Lowest.{lowest}
-use Rattle.records.proofs.Loops.{lowest_le}
-use Rattle.check_sorts.proofs.LowestMisplaced.{seen, body_seen, parent_step, seen_at, seen_none}
+use Rattle.check_sorts.proofs.LowestMisplaced.{seen}
 use Rattle.check_sorts.proofs.first_misplaced.Given as goal
 
 abbrev pub invariant-loop-q : goal.invariant-loop-q

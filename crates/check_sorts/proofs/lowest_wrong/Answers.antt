@@ -1,10 +1,6 @@
-use Prim.Native.Nat.{◌≤◌, ◌<◌, min}
-use mathlib.Core.Path.{◌≡◌, sym, ◌∙◌}
+use mathlib.Core.Path.{sym, ◌∙◌}
 use borrow.Author.Rules.{rules}
-use Rattle.varset.specs.Lowest.{lowest}
-use Rattle.records.specs.Fields.{kind_at, size_at}
-use Rattle.records.specs.Children.{walk, children}
-use Rattle.spec_language.specs.Nodes.{wrong_child}
+use Rattle.records.specs.Children.{children}
 use Rattle.check_sorts.proofs.LowestMisplaced.{child_step, child_end, pick_le}
 use Rattle.check_sorts.proofs.lowest_wrong.Goals as goal
 

@@ -1,11 +1,9 @@
 use Prim.Native.Nat.{◌≤◌, ◌<◌, min}
-use mathlib.Core.Path.{◌≡◌, sym, ◌∙◌}
-use borrow.Author.Rules.{rules}
+use mathlib.Core.Path.{◌≡◌}
 use Rattle.varset.specs.Lowest.{lowest}
 use Rattle.records.specs.Fields.{kind_at, size_at}
 use Rattle.records.specs.Children.{walk, children}
 use Rattle.spec_language.specs.Nodes.{wrong_child}
-use Rattle.check_sorts.proofs.LowestMisplaced.{child_step, child_end, pick_le}
 use Rattle.check_sorts.proofs.lowest_wrong.Given as goal
 
 abbrev pub invariant-loop-j : goal.invariant-loop-j

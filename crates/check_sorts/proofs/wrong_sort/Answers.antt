@@ -1,4 +1,3 @@
-use borrow.Author.Rules.{rules}
 use Rattle.spec_language.specs.Sorts.{differ, wrong_sort}
 use Rattle.check_sorts.proofs.wrong_sort.Goals as goal
 

@@ -1,4 +1,4 @@
-use Rattle.std.proofs.Common.{◌≡◌, ℕ, List, ap, ◌∙◌, rules}
+use Rattle.std.proofs.Common.{◌≡◌, ℕ, List, ap, ◌∙◌}
 use Rattle.words.specs.Blocks.{puts}
 use Rattle.desk_digest.specs.Padding.{big_endian}
 use Rattle.desk_digest.specs.Sha256.{bytes_of}

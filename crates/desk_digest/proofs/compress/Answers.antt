@@ -1,4 +1,4 @@
-use Rattle.std.proofs.Common.{◌≡◌, ◌-◌, ◌≤◌, refl, ◌∙◌, add-one, arith, rules}
+use Rattle.std.proofs.Common.{◌≡◌, refl, ◌∙◌, add-one, arith, rules}
 use Rattle.desk_digest.specs.Constants.{constants}
 use Rattle.desk_digest.specs.Sha256.{rounds, compress}
 use Rattle.desk_digest.proofs.compress.Goals as goal

@@ -1,6 +1,5 @@
-use Rattle.std.proofs.Common.{◌≡◌, ◌-◌, ◌≤◌, refl, ◌∙◌, add-one, arith, rules}
-use Rattle.desk_digest.specs.Constants.{constants}
-use Rattle.desk_digest.specs.Sha256.{rounds, compress}
+use Rattle.std.proofs.Common.{◌≡◌, ◌-◌, ◌≤◌}
+use Rattle.desk_digest.specs.Sha256.{rounds}
 use Rattle.desk_digest.proofs.compress.Given as goal
 
 abbrev pub invariant-loop-t : goal.invariant-loop-t

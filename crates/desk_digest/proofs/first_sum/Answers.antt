@@ -1,6 +1,6 @@
 use Rattle.desk_digest.specs.Words.{Σ1}
 use Rattle.desk_digest.specs.Sha256.{T1}
-use Rattle.std.proofs.Common.{◌∙◌, rules}
+use Rattle.std.proofs.Common.{◌∙◌}
 use Rattle.desk_digest.proofs.first_sum.Goals as goal
 
 pub returns : goal.returns

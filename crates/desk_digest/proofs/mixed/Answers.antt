@@ -1,6 +1,6 @@
 use Rattle.desk_digest.specs.Words.{σ0, σ1}
 use Rattle.desk_digest.specs.Sha256.{mixed}
-use Rattle.std.proofs.Common.{◌∙◌, rules}
+use Rattle.std.proofs.Common.{◌∙◌}
 use Rattle.desk_digest.proofs.mixed.Goals as goal
 
 pub returns : goal.returns

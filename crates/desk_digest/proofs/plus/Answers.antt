@@ -1,5 +1,4 @@
 use Rattle.desk_digest.specs.Words.{◌⊞◌}
-use Rattle.std.proofs.Common.{rules}
 use Rattle.desk_digest.proofs.plus.Goals as goal
 
 pub returns : goal.returns

@@ -1,4 +1,4 @@
-use Rattle.std.proofs.Common.{div-one, rules}
+use Rattle.std.proofs.Common.{div-one}
 use Rattle.desk_digest.specs.Padding.{big_endian}
 use Rattle.desk_digest.proofs.put_word.Goals as goal
 

@@ -1,4 +1,3 @@
-use Rattle.std.proofs.Common.{rules}
 use Rattle.desk_digest.proofs.rotations.Goals as goal
 
 pub returns : goal.returns

@@ -1,5 +1,4 @@
 use Rattle.desk_digest.specs.Words.{shr}
-use Rattle.std.proofs.Common.{rules}
 use Rattle.desk_digest.proofs.rotations_shift.Goals as goal
 
 pub returns : goal.returns

@@ -1,4 +1,4 @@
-use Rattle.std.proofs.Common.{refl, rules}
+use Rattle.std.proofs.Common.{refl}
 use Rattle.desk_digest.specs.Words.{rotr}
 use Rattle.desk_digest.proofs.rotr.Goals as goal
 

@@ -1,5 +1,4 @@
 use Rattle.desk_digest.specs.Sha256.{round, turned}
-use Rattle.std.proofs.Common.{rules}
 use Rattle.desk_digest.proofs.round.Goals as goal
 
 pub returns : goal.returns

@@ -1,4 +1,4 @@
-use Rattle.std.proofs.Common.{◌≡◌, ◌-◌, ◌≤◌, length, take, sym, refl, ap, ◌∙◌, arith, length-set, take_all, rules}
+use Rattle.std.proofs.Common.{◌≡◌, sym, refl, ap, ◌∙◌, arith, length-set, take_all, rules}
 use Rattle.desk_digest.specs.Padding.{padded}
 use Rattle.desk_digest.specs.Sha256.{schedule}
 use Rattle.desk_digest.proofs.Schedules.{filled}

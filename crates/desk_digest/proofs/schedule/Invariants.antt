@@ -1,7 +1,6 @@
-use Rattle.std.proofs.Common.{◌≡◌, ◌-◌, ◌≤◌, length, take, sym, refl, ap, ◌∙◌, arith, length-set, take_all, rules}
+use Rattle.std.proofs.Common.{◌≡◌, ◌-◌, ◌≤◌, length, take}
 use Rattle.desk_digest.specs.Padding.{padded}
 use Rattle.desk_digest.specs.Sha256.{schedule}
-use Rattle.desk_digest.proofs.Schedules.{filled}
 use Rattle.desk_digest.proofs.schedule.Given as goal
 
 abbrev pub invariant-loop-t : goal.invariant-loop-t

@@ -1,6 +1,6 @@
 use Rattle.desk_digest.specs.Words.{Σ0}
 use Rattle.desk_digest.specs.Sha256.{T2}
-use Rattle.std.proofs.Common.{◌∙◌, rules}
+use Rattle.std.proofs.Common.{◌∙◌}
 use Rattle.desk_digest.proofs.second_sum.Goals as goal
 
 pub returns : goal.returns

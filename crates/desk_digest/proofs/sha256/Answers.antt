@@ -1,4 +1,4 @@
-use Rattle.std.proofs.Common.{◌≡◌, ◌-◌, ◌/◌, ◌≤◌, length, ◌∙◌, add-one, arith, rules}
+use Rattle.std.proofs.Common.{◌≡◌, ◌/◌, length, ◌∙◌, add-one, arith, rules}
 use Rattle.desk_digest.specs.Padding.{padded}
 use Rattle.desk_digest.specs.Sha256.{hash, sha256}
 use Rattle.desk_digest.proofs.Paddings.{padded_length}

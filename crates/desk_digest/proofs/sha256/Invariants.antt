@@ -1,7 +1,6 @@
-use Rattle.std.proofs.Common.{◌≡◌, ◌-◌, ◌/◌, ◌≤◌, length, ◌∙◌, add-one, arith, rules}
+use Rattle.std.proofs.Common.{◌≡◌, ◌-◌, ◌≤◌}
 use Rattle.desk_digest.specs.Padding.{padded}
-use Rattle.desk_digest.specs.Sha256.{hash, sha256}
-use Rattle.desk_digest.proofs.Paddings.{padded_length}
+use Rattle.desk_digest.specs.Sha256.{hash}
 use Rattle.desk_digest.proofs.sha256.Given as goal
 
 abbrev pub invariant-loop-i : goal.invariant-loop-i

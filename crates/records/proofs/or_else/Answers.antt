@@ -1,5 +1,4 @@
 use Rattle.records.specs.Search.{or_else}
-use borrow.Author.Rules.{rules}
 use Rattle.records.proofs.or_else.Goals as goal
 
 pub returns-in-At : goal.returns-in-At

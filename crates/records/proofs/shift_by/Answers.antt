@@ -1,6 +1,5 @@
 use native.Mathlib.Omega.{arith}
 use Rattle.records.specs.Search.{shift}
-use borrow.Author.Rules.{rules}
 use Rattle.records.proofs.shift_by.Goals as goal
 
 pub overflow_add-result : goal.overflow_add-result

@@ -1,6 +1,5 @@
 use native.Mathlib.Omega.{arith}
 use Rattle.records.specs.Bytes.{u16_at}
-use borrow.Author.Rules.{rules}
 use Rattle.records.proofs.u16_at.Goals as goal
 
 pub returns : goal.returns

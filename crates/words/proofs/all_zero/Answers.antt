@@ -1,8 +1,6 @@
 use Rattle.words.proofs.Tests.{tail, part-more, part_less}
 use Rattle.words.specs.Blocks.{all_zero}
-use lib.ListN.{length, drop}
-use Prim.Native.Nat.{◌≤◌, ◌-◌}
-use mathlib.Core.Path.{◌≡◌, refl, sym, ap, ◌∙◌}
+use mathlib.Core.Path.{refl, sym, ap, ◌∙◌}
 use borrow.Author.Tests.{not-true, not-false}
 use borrow.Author.Rules.{rules}
 use Rattle.words.proofs.all_zero.Goals as goal

@@ -1,10 +1,7 @@
-use Rattle.words.proofs.Tests.{tail, part-more, part_less}
 use Rattle.words.specs.Blocks.{all_zero}
 use lib.ListN.{length, drop}
 use Prim.Native.Nat.{◌≤◌, ◌-◌}
-use mathlib.Core.Path.{◌≡◌, refl, sym, ap, ◌∙◌}
-use borrow.Author.Tests.{not-true, not-false}
-use borrow.Author.Rules.{rules}
+use mathlib.Core.Path.{◌≡◌}
 use Rattle.words.proofs.by_eights.Given as goal
 
 abbrev pub invariant-loop-at : goal.invariant-loop-at

@@ -1,8 +1,6 @@
 use Rattle.words.proofs.Tests.{zero_more, zero_less, ended}
 use Rattle.words.specs.Blocks.{all_zero}
-use lib.ListN.{length, drop}
-use Prim.Native.Nat.{◌≤◌, ◌-◌}
-use mathlib.Core.Path.{◌≡◌, ◌∙◌, sym, refl, ap}
+use mathlib.Core.Path.{◌∙◌, sym, refl, ap}
 use native.Mathlib.Omega.{arith}
 use borrow.Author.Rules.{rules}
 use Rattle.words.proofs.each_zero.Goals as goal

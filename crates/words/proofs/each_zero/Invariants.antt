@@ -1,10 +1,7 @@
-use Rattle.words.proofs.Tests.{zero_more, zero_less, ended}
 use Rattle.words.specs.Blocks.{all_zero}
 use lib.ListN.{length, drop}
 use Prim.Native.Nat.{◌≤◌, ◌-◌}
-use mathlib.Core.Path.{◌≡◌, ◌∙◌, sym, refl, ap}
-use native.Mathlib.Omega.{arith}
-use borrow.Author.Rules.{rules}
+use mathlib.Core.Path.{◌≡◌}
 use Rattle.words.proofs.each_zero.Given as goal
 
 abbrev pub invariant-loop-i : goal.invariant-loop-i

@@ -1,5 +1,4 @@
 use Rattle.words.proofs.Tests.{eight_words}
-use borrow.Author.Rules.{rules}
 use Rattle.words.proofs.eight_zero.Goals as goal
 
 pub returns : goal.returns

@@ -1,5 +1,4 @@
 use Rattle.words.proofs.Tests.{part_joined}
-use borrow.Author.Rules.{rules}
 use Rattle.words.proofs.many_zero.Goals as goal
 
 pub returns : goal.returns

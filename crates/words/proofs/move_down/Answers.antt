@@ -1,9 +1,7 @@
 use borrow.Author.Rules.{rules}
 use native.Mathlib.Omega.{arith}
 use mathlib.Core.Path.{◌≡◌, refl, ◌∙◌}
-use Prim.Native.Nat.{◌≤◌, ◌+◌, ◌-◌, ◌*◌}
-use lib.ListN.{length}
-use Rattle.words.specs.Moves.{moved}
+use Prim.Native.Nat.{◌+◌, ◌*◌}
 use Rattle.words.proofs.Moves.{moved_more}
 use Rattle.words.proofs.move_down.Goals as goal
 

@@ -1,7 +1,6 @@
 use native.Mathlib.Omega.{arith}
 use mathlib.Core.Path.{◌∙◌}
 use Rattle.words.proofs.Moves.{four_at}
-use borrow.Author.Rules.{rules}
 use Rattle.words.proofs.move_four.Goals as goal
 
 pub returns : goal.returns

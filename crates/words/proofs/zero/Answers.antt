@@ -1,9 +1,9 @@
 use Rattle.words.proofs.Tests.{filled}
 use borrow.Author.Fill.{fill_more}
-use lib.ListN.{length, replicate, drop, set, length-set}
-use Prim.Native.Nat.{ℕ, ◌≤◌, ◌-◌, ◌+◌}
-use mathlib.Core.List.{List, ◌++◌}
-use mathlib.Core.Path.{◌≡◌, ◌∙◌, refl, ap}
+use lib.ListN.{length, set, length-set}
+use Prim.Native.Nat.{ℕ, ◌≤◌, ◌+◌}
+use mathlib.Core.List.{List}
+use mathlib.Core.Path.{◌∙◌, refl, ap}
 use native.Mathlib.Omega.{arith}
 use borrow.Author.Rules.{rules}
 use Rattle.words.proofs.zero.Goals as goal

@@ -1,11 +1,7 @@
-use Rattle.words.proofs.Tests.{filled}
-use borrow.Author.Fill.{fill_more}
-use lib.ListN.{length, replicate, drop, set, length-set}
-use Prim.Native.Nat.{ℕ, ◌≤◌, ◌-◌, ◌+◌}
-use mathlib.Core.List.{List, ◌++◌}
-use mathlib.Core.Path.{◌≡◌, ◌∙◌, refl, ap}
-use native.Mathlib.Omega.{arith}
-use borrow.Author.Rules.{rules}
+use lib.ListN.{length, replicate, drop}
+use Prim.Native.Nat.{◌≤◌, ◌-◌}
+use mathlib.Core.List.{◌++◌}
+use mathlib.Core.Path.{◌≡◌}
 use Rattle.words.proofs.zero.Given as goal
 
 abbrev pub invariant-loop-done : goal.invariant-loop-done

@@ -1,7 +1,6 @@
 use native.Mathlib.Omega.{arith}
 use Prim.Native.Nat.{◌+◌, ◌-◌}
 use Rattle.words.proofs.Blocks.{zeros_lent}
-use borrow.Author.Rules.{rules}
 use Rattle.words.proofs.zero_at.Goals as goal
 
 pub returns : goal.returns

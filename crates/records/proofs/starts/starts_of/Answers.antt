@@ -1,11 +1,9 @@
-use lib.ListN.{length, length-set}
-use mathlib.Core.Path.{◌≡◌, refl}
-use Prim.Native.Nat.{◌*◌, ◌-◌, ◌≤◌}
+use lib.ListN.{length-set}
+use mathlib.Core.Path.{refl}
 use native.Mathlib.Omega.{arith}
 use borrow.Author.Rules.{rules}
-use Rattle.records.specs.Parts.{start_of}
 use Rattle.records.proofs.PartWalks.{start_first, start_on}
-use Rattle.records.proofs.StartTables.{StartsTo, starts_more}
+use Rattle.records.proofs.StartTables.{starts_more}
 use Rattle.records.proofs.starts.starts_of.Goals as goal
 
 pub function_count-functions-requires : goal.function_count-functions-requires

@@ -1,11 +1,8 @@
-use lib.ListN.{length, length-set}
-use mathlib.Core.Path.{◌≡◌, refl}
+use lib.ListN.{length}
+use mathlib.Core.Path.{◌≡◌}
 use Prim.Native.Nat.{◌*◌, ◌-◌, ◌≤◌}
-use native.Mathlib.Omega.{arith}
-use borrow.Author.Rules.{rules}
 use Rattle.records.specs.Parts.{start_of}
-use Rattle.records.proofs.PartWalks.{start_first, start_on}
-use Rattle.records.proofs.StartTables.{StartsTo, starts_more}
+use Rattle.records.proofs.StartTables.{StartsTo}
 use Rattle.records.proofs.starts.starts_of.Given as goal
 
 abbrev pub invariant-loop-f : goal.invariant-loop-f
