@@ -1,11 +1,8 @@
 use Rattle.check_file.proofs.Rounds.{ready, fewer_passed, more_passed, found_first}
-use Rattle.check_file.specs.Stages.{PassedBefore}
 use Rattle.check_file.specs.Answers.{says}
-use mathlib.Core.Path.{◌≡◌, refl, sym, ◌∙◌}
-use Prim.Native.Nat.{◌-◌, ◌≤◌}
-use lib.ListN.{length}
+use mathlib.Core.Path.{refl, sym, ◌∙◌}
+use Prim.Native.Nat.{◌-◌}
 use native.Mathlib.Omega.{arith}
-use borrow.Author.Rules.{rules}
 use Rattle.check_file.proofs.ask.Goals as goal
 
 pub loop-q-init : goal.loop-q-init

@@ -1,11 +1,7 @@
-use Rattle.check_file.proofs.Rounds.{ready, fewer_passed, more_passed, found_first}
 use Rattle.check_file.specs.Stages.{PassedBefore}
-use Rattle.check_file.specs.Answers.{says}
-use mathlib.Core.Path.{◌≡◌, refl, sym, ◌∙◌}
+use mathlib.Core.Path.{◌≡◌}
 use Prim.Native.Nat.{◌-◌, ◌≤◌}
 use lib.ListN.{length}
-use native.Mathlib.Omega.{arith}
-use borrow.Author.Rules.{rules}
 use Rattle.check_file.proofs.ask.Given as goal
 
 abbrev pub invariant-loop-q : goal.invariant-loop-q

@@ -3,7 +3,6 @@ use Rattle.check_file.specs.Answers.{says}
 use lib.Dec.{lit≤}
 use native.Mathlib.Omega.{arith}
 use mathlib.Core.Path.{sym}
-use borrow.Author.Rules.{rules}
 use Rattle.check_file.proofs.check_parts.Goals as goal
 
 pub returns-then-least-gt14 : goal.returns-then-least-gt14

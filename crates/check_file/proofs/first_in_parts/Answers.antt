@@ -2,15 +2,12 @@ use Prim.Native.Nat.{ℕ}
 use Rattle.check_file.proofs.Walk.{asks, found, placed, shift_placed}
 use Rattle.check_file.proofs.Passing.{part_room}
 use Rattle.records.proofs.PartWalks.{start_first, start_next, scan_found, scan_on, scan-end}
-use Rattle.spec_language.specs.Check.{in_part}
-use Rattle.records.specs.Search.{first_in}
-use Rattle.records.specs.Parts.{start_of}
 use lib.ListN.{length}
 use borrow.Author.Rules.{rules}
 use native.Mathlib.Nat.{sub-zero}
 use native.Mathlib.Omega.{arith}
 use mathlib.Core.Path.{◌≡◌, refl, sym, ◌∙◌}
-use Prim.Native.Nat.{◌-◌, ◌≤◌}
+use Prim.Native.Nat.{◌-◌}
 use Rattle.check_file.proofs.first_in_parts.Goals as goal
 
 pub function_count-functions-requires : goal.function_count-functions-requires

@@ -1,5 +1,4 @@
 use borrow.Author.Tests.{ne_eqb}
-use borrow.Author.Rules.{rules}
 use Rattle.check_file.proofs.origin.Goals as goal
 
 pub returns-in-10 : goal.returns-in-10

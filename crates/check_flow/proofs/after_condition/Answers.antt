@@ -1,6 +1,5 @@
 use mathlib.Core.Path.{refl, ◌∙◌}
 use Rattle.records.specs.Search.{or_else}
-use borrow.Author.Rules.{rules}
 use Rattle.check_flow.proofs.after_condition.Goals as goal
 
 pub returns-in-At : goal.returns-in-At

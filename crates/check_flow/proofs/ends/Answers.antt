@@ -1,7 +1,6 @@
 use mathlib.Core.Path.{refl}
 use mathlib.Core.Bool.{true≢false}
 use Rattle.check_flow.specs.Descents.{lack_of}
-use borrow.Author.Rules.{rules}
 use Rattle.check_flow.proofs.ends.Goals as goal
 
 pub returns : goal.returns

@@ -1,9 +1,5 @@
-use mathlib.Core.Path.{◌≡◌, refl, ◌∙◌}
-use Prim.Native.Nat.{◌<◌}
+use mathlib.Core.Path.{refl, ◌∙◌}
 use native.Mathlib.Omega.{arith}
-use Rattle.varset.specs.Sets.{has}
-use Rattle.spec_language.specs.Statements.{statement_at}
-use Rattle.spec_language.specs.Flow.{lacks}
 use Rattle.check_flow.proofs.Descending.{first_lacks, over-is, on_is}
 use Rattle.check_flow.proofs.first_empty.Goals as goal
 

@@ -1,10 +1,8 @@
-use mathlib.Core.Path.{◌≡◌, refl, ◌∙◌}
+use mathlib.Core.Path.{◌≡◌}
 use Prim.Native.Nat.{◌<◌}
-use native.Mathlib.Omega.{arith}
 use Rattle.varset.specs.Sets.{has}
 use Rattle.spec_language.specs.Statements.{statement_at}
 use Rattle.spec_language.specs.Flow.{lacks}
-use Rattle.check_flow.proofs.Descending.{first_lacks, over-is, on_is}
 use Rattle.check_flow.proofs.first_empty.Given as goal
 
 abbrev pub invariant-loop-i : goal.invariant-loop-i

@@ -5,7 +5,6 @@ use Rattle.records.specs.Fields.{params_of}
 use Rattle.varset.specs.Sets.{below}
 use Prim.Native.Nat.{◌-◌}
 use mathlib.Core.Path.{◌≡◌, ◌∙◌}
-use borrow.Author.Rules.{rules}
 use Rattle.check_flow.proofs.first_lacking.Goals as goal
 
 pub returns : goal.returns

@@ -1,9 +1,6 @@
-use mathlib.Core.Path.{◌≡◌, refl, sym, ◌∙◌}
-use Prim.Native.Nat.{◌+◌, ◌-◌, ◌≤◌}
+use mathlib.Core.Path.{refl, sym, ◌∙◌}
+use Prim.Native.Nat.{◌-◌}
 use borrow.Author.Rules.{rules}
-use Rattle.varset.specs.Sets.{has}
-use Rattle.spec_language.specs.Statements.{reads_from, reads_of}
-use Rattle.spec_language.specs.Flow.{missing}
 use Rattle.spec_language.specs.Scopes.{uses_variable}
 use Rattle.spec_language.specs.Known.{names_variable}
 use Rattle.spec_language.proofs.KnownNodes.{named}

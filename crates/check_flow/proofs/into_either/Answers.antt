@@ -1,5 +1,4 @@
 use mathlib.Core.Path.{◌∙◌}
-use borrow.Author.Rules.{rules}
 use Rattle.check_flow.proofs.into_either.Goals as goal
 
 pub returns-then-passes : goal.returns-then-passes

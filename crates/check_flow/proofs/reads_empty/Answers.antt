@@ -1,6 +1,5 @@
 use borrow.Author.Tests.{ne_eqb}
 use mathlib.Core.Path.{sym, ◌∙◌}
-use borrow.Author.Rules.{rules}
 use Rattle.check_flow.proofs.reads_empty.Goals as goal
 
 pub contains-requires : goal.contains-requires

@@ -2,7 +2,6 @@ use Rattle.records.specs.Format.{last_edition}
 use native.Mathlib.Omega.{arith}
 use Rattle.spec_language.specs.Records.{header_ok, within}
 use Rattle.spec_language.proofs.Editions.{ending_is}
-use borrow.Author.Rules.{rules}
 use Rattle.check_header.proofs.header_ok.Goals as goal
 
 pub returns : goal.returns

@@ -1,10 +1,8 @@
 use mathlib.Core.Bool.{not, false≢true, and-false}
 use Prim.Native.Nat.{◌%◌}
-use native.Mathlib.Omega.{arith}
 use lib.Dec.{eqb, ltb}
 use lib.ListN.{length}
 use borrow.Author.Tests.{not-true, ltb-true, lt-leb}
-use borrow.Author.Rules.{rules}
 use Rattle.records.proofs.Bools.{or_cases}
 use Rattle.spec_language.specs.Records.{length_ok}
 use Rattle.check_header.proofs.is_cut.Goals as goal

@@ -1,5 +1,4 @@
 use Rattle.spec_language.specs.Records.{main_ok}
-use borrow.Author.Rules.{rules}
 use Rattle.check_header.proofs.main_ok.Goals as goal
 
 pub returns : goal.returns

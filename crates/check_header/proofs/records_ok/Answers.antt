@@ -1,5 +1,4 @@
 use Rattle.spec_language.specs.Records.{records_ok}
-use borrow.Author.Rules.{rules}
 use Rattle.check_header.proofs.records_ok.Goals as goal
 
 pub returns : goal.returns

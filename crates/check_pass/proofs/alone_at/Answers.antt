@@ -1,7 +1,6 @@
 use mathlib.Core.Path.{sym, ◌∙◌}
 use native.Mathlib.Omega.{arith}
 use Rattle.check_pass.proofs.ByKind.{int_leaf, bool_leaf, nop_leaf, nothing_leaf}
-use borrow.Author.Rules.{rules}
 use Rattle.check_pass.proofs.alone_at.Goals as goal
 
 pub leaf_at-requires : goal.leaf_at-requires

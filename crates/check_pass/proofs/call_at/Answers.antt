@@ -1,8 +1,6 @@
-use Rattle.check_pass.proofs.Calls.{Left, left_first, left_next, call_judged}
+use Rattle.check_pass.proofs.Calls.{left_first, left_next, call_judged}
 use Rattle.check_types.proofs.TypeTables.{laid_at}
 use mathlib.Core.Path.{◌∙◌}
-use Prim.Native.Nat.{◌<◌}
-use borrow.Author.Rules.{rules}
 use native.Mathlib.Omega.{arith}
 use Rattle.check_pass.proofs.call_at.Goals as goal
 

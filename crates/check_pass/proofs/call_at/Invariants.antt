@@ -1,9 +1,5 @@
-use Rattle.check_pass.proofs.Calls.{Left, left_first, left_next, call_judged}
-use Rattle.check_types.proofs.TypeTables.{laid_at}
-use mathlib.Core.Path.{◌∙◌}
+use Rattle.check_pass.proofs.Calls.{Left}
 use Prim.Native.Nat.{◌<◌}
-use borrow.Author.Rules.{rules}
-use native.Mathlib.Omega.{arith}
 use Rattle.check_pass.proofs.call_at.Given as goal
 
 abbrev pub invariant-loop-j : goal.invariant-loop-j

@@ -1,5 +1,4 @@
 use native.Mathlib.Omega.{arith}
-use borrow.Author.Rules.{rules}
 use Rattle.check_pass.proofs.declared.Goals as goal
 
 pub returns-then-size_at-eq1 : goal.returns-then-size_at-eq1

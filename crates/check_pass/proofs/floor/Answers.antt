@@ -1,11 +1,8 @@
 use Rattle.spec_language.specs.Scopes.{uses_variable}
 use Rattle.spec_language.specs.Known.{names_variable}
-use Rattle.varset.specs.Sets.{has}
-use mathlib.Core.Path.{◌≡◌, refl}
-use lib.ListN.{length}
-use Prim.Native.Nat.{◌-◌, ◌≤◌}
+use mathlib.Core.Path.{refl}
+use Prim.Native.Nat.{◌-◌}
 use Rattle.check_pass.proofs.Filling.{filled_none, filled_more, filled_next, filled_sound, sound_passed, all-below, kept_length}
-use Rattle.check_pass.specs.Judged.{Filled}
 use borrow.Author.Tests.{not-false}
 use borrow.Author.Rules.{rules}
 use native.Mathlib.Omega.{arith}

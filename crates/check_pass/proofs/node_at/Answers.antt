@@ -1,7 +1,6 @@
 use Rattle.check_pass.proofs.ByKind.{number_operator, and_operator, return_single, assert_single, expr_single}
 use native.Mathlib.Omega.{arith}
 use mathlib.Core.Path.{sym, ◌∙◌}
-use borrow.Author.Rules.{rules}
 use Rattle.check_pass.proofs.node_at.Goals as goal
 
 pub operator_at-requires : goal.operator_at-requires

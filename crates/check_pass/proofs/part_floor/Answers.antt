@@ -2,7 +2,6 @@ use Rattle.check_pass.proofs.Clearing.{part_known, clear}
 use Rattle.check_scopes.proofs.Decls.{noted_none}
 use mathlib.Core.Path.{refl, ◌∙◌}
 use native.Mathlib.Omega.{arith}
-use borrow.Author.Rules.{rules}
 use Rattle.check_pass.proofs.part_floor.Goals as goal
 
 pub survey_part-asked-requires : goal.survey_part-asked-requires

@@ -2,7 +2,6 @@ use Prim.Native.Nat.{◌-◌, ◌≤◌}
 use native.Mathlib.Omega.{arith}
 use lib.Dec.{lit≤}
 use borrow.Author.Rules.{rules}
-use Rattle.check_rest.specs.Sound.{SoundBefore}
 use Rattle.check_rest.proofs.Sounds.{sound, sound_next}
 use Rattle.check_rest.proofs.floor_from.Goals as goal
 

@@ -1,9 +1,5 @@
 use Prim.Native.Nat.{◌-◌, ◌≤◌}
-use native.Mathlib.Omega.{arith}
-use lib.Dec.{lit≤}
-use borrow.Author.Rules.{rules}
 use Rattle.check_rest.specs.Sound.{SoundBefore}
-use Rattle.check_rest.proofs.Sounds.{sound, sound_next}
 use Rattle.check_rest.proofs.floor_from.Given as goal
 
 abbrev pub invariant-loop-i : goal.invariant-loop-i

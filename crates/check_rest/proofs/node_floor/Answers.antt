@@ -3,7 +3,6 @@ use native.Mathlib.Omega.{arith}
 use lib.Dec.{lit≤}
 use borrow.Author.Tests.{not-false}
 use Rattle.check_rest.proofs.Sounds.{sound}
-use borrow.Author.Rules.{rules}
 use Rattle.check_rest.proofs.node_floor.Goals as goal
 
 pub returns-then-not-size_ok : goal.returns-then-not-size_ok

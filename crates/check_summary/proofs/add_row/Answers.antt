@@ -2,7 +2,6 @@ use Rattle.check_summary.proofs.Stored.{more_reads, more_flows}
 use Rattle.check_summary.proofs.Filling.{read_asks}
 use native.Mathlib.Omega.{arith}
 use mathlib.Core.Path.{refl}
-use borrow.Author.Rules.{rules}
 use Rattle.check_summary.proofs.add_row.Goals as goal
 
 pub kind_at-kind-requires : goal.kind_at-kind-requires

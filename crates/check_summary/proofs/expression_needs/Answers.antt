@@ -4,8 +4,7 @@ use Rattle.check_summary.proofs.Filling.{read_asks, some_size, fits_size, needs_
 use Rattle.check_summary.proofs.Ranges.{range_needs}
 use native.Mathlib.Omega.{arith}
 use Rattle.records.specs.Fields.{size_at}
-use Prim.Native.Nat.{ℕ, ◌+◌, ◌-◌, ◌≤◌}
-use Rattle.check_summary.specs.Tables.{Range}
+use Prim.Native.Nat.{ℕ, ◌+◌, ◌-◌}
 use Rattle.check_summary.proofs.expression_needs.Goals as goal
 
 pub own_read-set-requires : goal.own_read-set-requires

@@ -1,10 +1,4 @@
-use borrow.Author.Rules.{rules}
-use mathlib.Core.Path.{◌≡◌, ap, ◌∙◌}
-use Rattle.check_summary.proofs.Filling.{read_asks, some_size, fits_size, needs_step}
-use Rattle.check_summary.proofs.Ranges.{range_needs}
-use native.Mathlib.Omega.{arith}
-use Rattle.records.specs.Fields.{size_at}
-use Prim.Native.Nat.{ℕ, ◌+◌, ◌-◌, ◌≤◌}
+use Prim.Native.Nat.{◌+◌, ◌-◌, ◌≤◌}
 use Rattle.check_summary.specs.Tables.{Range}
 use Rattle.check_summary.proofs.expression_needs.Given as goal
 

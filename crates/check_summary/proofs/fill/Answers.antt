@@ -1,9 +1,6 @@
-use borrow.Author.Rules.{rules}
 use Rattle.check_summary.proofs.Stored.{none_filled}
-use Rattle.check_summary.specs.Tables.{RowsFilled}
-use lib.ListN.{length}
 use native.Mathlib.Omega.{arith}
-use Prim.Native.Nat.{◌-◌, ◌≤◌}
+use Prim.Native.Nat.{◌-◌}
 use mathlib.Core.Path.{◌≡◌, refl, ◌∙◌}
 use Rattle.check_summary.proofs.fill.Goals as goal
 

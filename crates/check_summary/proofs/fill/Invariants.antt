@@ -1,10 +1,7 @@
-use borrow.Author.Rules.{rules}
-use Rattle.check_summary.proofs.Stored.{none_filled}
 use Rattle.check_summary.specs.Tables.{RowsFilled}
 use lib.ListN.{length}
-use native.Mathlib.Omega.{arith}
 use Prim.Native.Nat.{◌-◌, ◌≤◌}
-use mathlib.Core.Path.{◌≡◌, refl, ◌∙◌}
+use mathlib.Core.Path.{◌≡◌}
 use Rattle.check_summary.proofs.fill.Given as goal
 
 abbrev pub invariant-loop-i : goal.invariant-loop-i

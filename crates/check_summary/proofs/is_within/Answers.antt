@@ -1,6 +1,5 @@
 use Rattle.check_summary.proofs.Passing.{within_is}
 use mathlib.Core.Path.{sym, ◌∙◌}
-use borrow.Author.Rules.{rules}
 use Rattle.check_summary.proofs.is_within.Goals as goal
 
 pub returns : goal.returns

@@ -1,6 +1,5 @@
 use Rattle.check_summary.specs.Tables.{word_of}
 use mathlib.Core.Path.{refl}
-use borrow.Author.Rules.{rules}
 use Rattle.check_summary.proofs.needs_at.Goals as goal
 
 pub returns : goal.returns

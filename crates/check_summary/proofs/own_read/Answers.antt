@@ -1,6 +1,5 @@
 use Rattle.check_summary.proofs.Ranges.{none_read, one_read}
 use mathlib.Core.Path.{sym, ◌∙◌}
-use borrow.Author.Rules.{rules}
 use Rattle.check_summary.proofs.own_read.Goals as goal
 
 pub insert-requires : goal.insert-requires

@@ -1,6 +1,5 @@
 use native.Mathlib.Omega.{arith}
 use lib.ListN.{length-set}
-use borrow.Author.Rules.{rules}
 use Rattle.check_summary.proofs.put_row.Goals as goal
 
 pub bounds-table-at-2 : goal.bounds-table-at-2

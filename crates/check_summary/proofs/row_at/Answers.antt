@@ -1,6 +1,5 @@
 use Rattle.check_summary.specs.Tables.{word_of, fails_in, returns_in}
 use mathlib.Core.Path.{refl}
-use borrow.Author.Rules.{rules}
 use Rattle.check_summary.proofs.row_at.Goals as goal
 
 pub returns : goal.returns

@@ -1,7 +1,6 @@
 use Rattle.check_summary.proofs.Arms.{row_sums}
 use Rattle.check_summary.proofs.Passing.{goes_by}
 use mathlib.Core.Path.{refl, ◌∙◌}
-use borrow.Author.Rules.{rules}
 use Rattle.check_summary.proofs.row_through.Goals as goal
 
 pub returns : goal.returns

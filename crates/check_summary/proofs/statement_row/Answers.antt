@@ -7,7 +7,6 @@ use Rattle.spec_language.specs.Known.{names_variable}
 use Rattle.records.specs.Children.{arity_of, arities}
 use native.Mathlib.Omega.{arith}
 use mathlib.Core.Path.{refl, sym, ◌∙◌}
-use borrow.Author.Rules.{rules}
 use Rattle.check_summary.proofs.statement_row.Goals as goal
 
 pub kind_at-kind-requires : goal.kind_at-kind-requires

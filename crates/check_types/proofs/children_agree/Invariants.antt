@@ -1,12 +1,9 @@
 use mathlib.Core.Path.{◌≡◌}
 use Prim.Native.Nat.{◌≤◌, ◌<◌}
 use lib.ListN.{get_or}
-use borrow.Author.Rules.{rules}
 use Rattle.spec_language.specs.Types.{want_at, agree}
 use Rattle.records.specs.Children.{arity_at, walk, children}
 use Rattle.records.specs.Fields.{size_at}
-use Rattle.check_types.proofs.Agree.{agree_not, agree_on, agree_all}
-use Rattle.check_types.proofs.TypeTables.{argument_few}
 use Rattle.check_types.proofs.children_agree.Given as goal
 
 abbrev pub invariant-loop-j : goal.invariant-loop-j

@@ -1,12 +1,9 @@
-use mathlib.Core.Path.{◌≡◌, refl}
-use Prim.Native.Nat.{◌≤◌, ◌-◌}
-use lib.ListN.{length}
+use mathlib.Core.Path.{refl}
+use Prim.Native.Nat.{◌-◌}
 use borrow.Author.Count.{below_none, below_more}
 use borrow.Author.Rules.{rules}
-use Rattle.spec_language.specs.Nodes.{mistyped}
-use Rattle.records.proofs.Loops.{Below, first-at, first-none}
+use Rattle.records.proofs.Loops.{first-at, first-none}
 use Rattle.check_types.proofs.Agree.{mistyped_is, typed_more}
-use Rattle.check_types.specs.Types.{NodesTyped}
 use Rattle.check_types.proofs.first_mistyped.Goals as goal
 
 pub loop-i-init : goal.loop-i-init

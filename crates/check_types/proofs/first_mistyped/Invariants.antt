@@ -1,11 +1,8 @@
-use mathlib.Core.Path.{◌≡◌, refl}
+use mathlib.Core.Path.{◌≡◌}
 use Prim.Native.Nat.{◌≤◌, ◌-◌}
 use lib.ListN.{length}
-use borrow.Author.Count.{below_none, below_more}
-use borrow.Author.Rules.{rules}
 use Rattle.spec_language.specs.Nodes.{mistyped}
-use Rattle.records.proofs.Loops.{Below, first-at, first-none}
-use Rattle.check_types.proofs.Agree.{mistyped_is, typed_more}
+use Rattle.records.proofs.Loops.{Below}
 use Rattle.check_types.specs.Types.{NodesTyped}
 use Rattle.check_types.proofs.first_mistyped.Given as goal
 

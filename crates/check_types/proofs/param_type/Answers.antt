@@ -1,5 +1,4 @@
 use mathlib.Core.Path.{◌∙◌}
-use borrow.Author.Rules.{rules}
 use Rattle.spec_language.specs.Types.{param_type}
 use Rattle.check_types.proofs.param_type.Goals as goal
 

@@ -1,5 +1,4 @@
 use mathlib.Core.Path.{refl, sym, ◌∙◌}
-use borrow.Author.Rules.{rules}
 use Rattle.spec_language.specs.Types.{types_of, type_at}
 use Rattle.spec_language.specs.Scopes.{uses_variable}
 use Rattle.check_types.proofs.TypeTables.{type_rest, laid_at, var_known}

@@ -1,9 +1,6 @@
-use mathlib.Core.Path.{◌≡◌, refl}
+use mathlib.Core.Path.{◌≡◌}
 use Prim.Native.Nat.{◌-◌, ◌≤◌}
-use native.Mathlib.Omega.{arith}
-use borrow.Author.Rules.{rules}
 use Rattle.spec_language.specs.Scopes.{decl_count}
-use Rattle.desk_faults.proofs.Tests.{count_on}
 use Rattle.desk_faults.proofs.declarations.Given as goal
 
 abbrev pub invariant-loop-i : goal.invariant-loop-i

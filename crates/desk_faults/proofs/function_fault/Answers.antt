@@ -4,7 +4,6 @@ use lib.ListN.{length}
 use borrow.Author.Tests.{le-leb, lt-leb}
 use Rattle.spec_language.specs.Records.{within}
 use Rattle.desk_faults.specs.Records.{function_fault}
-use borrow.Author.Rules.{rules}
 use Rattle.desk_faults.proofs.function_fault.Goals as goal
 
 pub returns-then-records-f : goal.returns-then-records-f

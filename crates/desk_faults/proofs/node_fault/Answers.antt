@@ -1,4 +1,3 @@
-use borrow.Author.Rules.{rules}
 use borrow.Author.Tests.{eq-eqb, ne_eqb, lt-ltb, le-ltb, le-leb, lt-leb}
 use Rattle.desk_faults.specs.Records.{node_fault}
 use Rattle.desk_faults.proofs.node_fault.Goals as goal

@@ -1,4 +1,4 @@
-use Rattle.std.proofs.Common.{◌≡◌, length, rules}
+use Rattle.std.proofs.Common.{◌≡◌, length}
 use Rattle.desk_listing.proofs.put_body.Given as goal
 
 abbrev pub invariant-loop-left : goal.invariant-loop-left

@@ -1,4 +1,3 @@
-use borrow.Author.Rules.{rules}
 use borrow.Author.Tests.{eq-eqb, ne_eqb, le-leb, lt-leb}
 use Rattle.desk_places.specs.Located.{place_of}
 use Rattle.desk_places.proofs.locate.Goals as goal

@@ -1,12 +1,9 @@
-use mathlib.Core.Path.{◌≡◌}
-use Prim.Native.Nat.{◌+◌, ◌*◌, ◌-◌, ◌≤◌}
+use Prim.Native.Nat.{◌-◌}
 use native.Mathlib.Omega.{arith}
 use borrow.Author.Count.{below_none, below_more}
 use borrow.Author.Rules.{rules}
-use Rattle.records.specs.Parts.{start_of}
-use Rattle.records.proofs.Loops.{Below}
 use Rattle.records.proofs.PartWalks.{start_first, start_next}
-use Rattle.desk_places.proofs.Holding.{Ends, held, passed, held_none}
+use Rattle.desk_places.proofs.Holding.{held, passed, held_none}
 use Rattle.desk_places.proofs.locate_node.Goals as goal
 
 pub loop-f-init : goal.loop-f-init

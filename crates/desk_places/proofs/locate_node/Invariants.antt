@@ -1,12 +1,8 @@
 use mathlib.Core.Path.{◌≡◌}
 use Prim.Native.Nat.{◌+◌, ◌*◌, ◌-◌, ◌≤◌}
-use native.Mathlib.Omega.{arith}
-use borrow.Author.Count.{below_none, below_more}
-use borrow.Author.Rules.{rules}
 use Rattle.records.specs.Parts.{start_of}
 use Rattle.records.proofs.Loops.{Below}
-use Rattle.records.proofs.PartWalks.{start_first, start_next}
-use Rattle.desk_places.proofs.Holding.{Ends, held, passed, held_none}
+use Rattle.desk_places.proofs.Holding.{Ends}
 use Rattle.desk_places.proofs.locate_node.Given as goal
 
 abbrev pub invariant-loop-f : goal.invariant-loop-f

@@ -1,6 +1,5 @@
 use mathlib.Core.Path.{refl}
 use native.Mathlib.Omega.{arith}
-use borrow.Author.Rules.{rules}
 use Rattle.desk_places.proofs.PartExtents.{Lies, no_function, no_room, past_functions, lies}
 use Rattle.desk_places.proofs.part_extent.Goals as goal
 

@@ -1,8 +1,7 @@
 use mathlib.Core.Path.{◌≡◌}
-use Prim.Native.Nat.{◌+◌, ◌*◌, ◌-◌, ◌≤◌}
+use Prim.Native.Nat.{◌-◌}
 use native.Mathlib.Omega.{arith}
 use borrow.Author.Rules.{rules}
-use Rattle.records.specs.Parts.{start_of}
 use Rattle.records.proofs.PartWalks.{start_first, start_next}
 use Rattle.desk_places.proofs.start_of.Goals as goal
 

@@ -1,5 +1,4 @@
 use mathlib.Core.Path.{sym, ◌∙◌}
-use borrow.Author.Rules.{rules}
 use Rattle.spec_language.specs.Statements.{prior, last}
 use Rattle.desk_ways.proofs.Gaps.{gap_if, gap_while, no_gap_while, gap_none}
 use Rattle.desk_ways.proofs.gap_at.Goals as goal

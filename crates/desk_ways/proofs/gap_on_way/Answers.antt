@@ -1,6 +1,5 @@
 use mathlib.Core.Path.{sym, ◌∙◌}
 use borrow.Author.Tests.{not-true, not-false}
-use borrow.Author.Rules.{rules}
 use Rattle.desk_ways.proofs.Gaps.{off_decl, off_way, on_way_lem}
 use Rattle.desk_ways.proofs.gap_on_way.Goals as goal
 

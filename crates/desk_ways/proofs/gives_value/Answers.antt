@@ -1,4 +1,3 @@
-use borrow.Author.Rules.{rules}
 use Rattle.desk_ways.specs.Ways.{gives}
 use Rattle.desk_ways.proofs.gives_value.Goals as goal
 

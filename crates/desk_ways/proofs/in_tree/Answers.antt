@@ -1,4 +1,3 @@
-use borrow.Author.Rules.{rules}
 use Rattle.desk_ways.specs.Ways.{in_tree}
 use Rattle.desk_ways.proofs.in_tree.Goals as goal
 

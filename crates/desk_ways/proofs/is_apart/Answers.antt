@@ -1,5 +1,4 @@
 use borrow.Author.Tests.{eq-eqb, ne_eqb}
-use borrow.Author.Rules.{rules}
 use Rattle.spec_language.specs.Statements.{prior, last}
 use Rattle.desk_ways.specs.Ways.{apart}
 use Rattle.desk_ways.proofs.is_apart.Goals as goal

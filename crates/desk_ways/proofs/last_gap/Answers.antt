@@ -1,9 +1,8 @@
 use mathlib.Core.Path.{◌≡◌, refl}
-use Prim.Native.Nat.{◌-◌, ◌≤◌}
+use Prim.Native.Nat.{◌-◌}
 use native.Mathlib.Omega.{arith}
 use borrow.Author.Rules.{rules}
 use Rattle.check_scopes.proofs.Decls.{decl_fits}
-use Rattle.desk_ways.specs.Ways.{last_gap}
 use Rattle.desk_ways.proofs.Gaps.{gap_next, gap_none_yet}
 use Rattle.desk_ways.proofs.last_gap.Goals as goal
 

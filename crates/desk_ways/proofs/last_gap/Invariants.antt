@@ -1,10 +1,6 @@
-use mathlib.Core.Path.{◌≡◌, refl}
+use mathlib.Core.Path.{◌≡◌}
 use Prim.Native.Nat.{◌-◌, ◌≤◌}
-use native.Mathlib.Omega.{arith}
-use borrow.Author.Rules.{rules}
-use Rattle.check_scopes.proofs.Decls.{decl_fits}
 use Rattle.desk_ways.specs.Ways.{last_gap}
-use Rattle.desk_ways.proofs.Gaps.{gap_next, gap_none_yet}
 use Rattle.desk_ways.proofs.last_gap.Given as goal
 
 abbrev pub invariant-loop-k : goal.invariant-loop-k

@@ -1,4 +1,3 @@
-use borrow.Author.Rules.{rules}
 use Rattle.desk_ways.specs.Ways.{or_earlier}
 use Rattle.desk_ways.proofs.or_earlier.Goals as goal
 

@@ -1,11 +1,6 @@
-use mathlib.Core.Path.{sym, ◌∙◌}
 use Prim.Native.Nat.{◌-◌, ◌≤◌}
-use native.Mathlib.Omega.{arith}
-use borrow.Author.Count.{below_none, below_more}
-use borrow.Author.Rules.{rules}
 use Rattle.records.proofs.Loops.{Below}
 use Rattle.desk_ways.specs.Ways.{apart}
-use Rattle.desk_ways.proofs.Searches.{some_at, some-none}
 use Rattle.desk_ways.proofs.some_apart.Given as goal
 
 abbrev pub invariant-loop-j : goal.invariant-loop-j

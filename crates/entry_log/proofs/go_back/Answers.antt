@@ -1,5 +1,4 @@
 use mathlib.Core.Path.{sym, ap, ◌∙◌}
-use mathlib.Core.Logic.{⊎_elim}
 use lib.Seq.{length-take-le}
 use borrow.Author.Tests.{not-true, not-false}
 use Rattle.spec_image.specs.Sizes.{size}
@@ -32,9 +31,9 @@ is_same-requires c = let e = length-take-le size c.args.m.now c.requires.1 in se
 pub returns-then-ran-eq0 : goal.returns-then-ran-eq0
 returns-then-ran-eq0 c = let e = c.restore.ensures ∙ ap (earlier _ _) c.copy.ensures in
     let f = sym c.holds_fit.ensures ∙ not-false _ c.if-not-holds_fit.false-raw in
-    elim c.then-ran-eq0.branch
-    [ then-ran-eq0-via-then-ran-eq0 w ↦ let q = stood _ _ _ _ c.requires.2 c.requires.1 _ e f _ _ _ c.run-ran.ensures w.if-ran-eq0.true in record { answer = q.0; memory = q.1 }
-    | then-ran-eq0-via-else-ran-eq0+then-not-is_same w ↦ let q = elsewhere _ _ _ _ c.requires.2 c.requires.1 _ e f _ _ _ c.run-ran.ensures w.if-ran-eq0.false (sym w.is_same.ensures ∙ not-true _ w.if-not-is_same.true-raw) in record { answer = q.0; memory = q.1 }
+    elim c.then-ran-eq0.branch [
+      | then-ran-eq0-via-then-ran-eq0 w ↦ let q = stood _ _ _ _ c.requires.2 c.requires.1 _ e f _ _ _ c.run-ran.ensures w.if-ran-eq0.true in record { answer = q.0; memory = q.1 }
+      | then-ran-eq0-via-else-ran-eq0+then-not-is_same w ↦ let q = elsewhere _ _ _ _ c.requires.2 c.requires.1 _ e f _ _ _ c.run-ran.ensures w.if-ran-eq0.false (sym w.is_same.ensures ∙ not-true _ w.if-not-is_same.true-raw) in record { answer = q.0; memory = q.1 }
     ]
 
 pub slice_bounds-restore-end-3 : goal.slice_bounds-restore-end-3

@@ -1,8 +1,6 @@
-use mathlib.Core.Path.{sym, ◌∙◌}
-use lib.ListN.{length}
+use mathlib.Core.Path.{sym}
 use lib.Seq.{length-take-le}
 use Rattle.spec_image.specs.Sizes.{size}
-use borrow.Author.Rules.{rules}
 use Rattle.entry_log.proofs.log_run.Goals as goal
 
 pub slice_bounds-copy-end-3 : goal.slice_bounds-copy-end-3

@@ -1,9 +1,7 @@
-use mathlib.Core.Path.{◌≡◌, sym, ap, ◌∙◌}
-use mathlib.Core.Logic.{⊎_elim, inl, inr}
-use native.Mathlib.Omega.{arith}
+use mathlib.Core.Path.{◌∙◌}
+use mathlib.Core.Logic.{inl, inr}
 use borrow.Author.Tests.{ltb-true, ltb-false}
-use Rattle.entry_log.proofs.Steps.{first_words, after_words, after_state, stood, crowded, room, taken}
-use borrow.Author.Rules.{rules}
+use Rattle.entry_log.proofs.Steps.{first_words, after_state, stood, crowded, room, taken}
 use Rattle.entry_log.proofs.log_step.Goals.{then-log-used-via-then-log-used, then-log-used-via-else-log-used+then-log-used-2}
 use Rattle.entry_log.proofs.log_step.Goals as goal
 

@@ -1,10 +1,7 @@
-use mathlib.Core.Path.{◌≡◌, sym, ◌∙◌}
 use Prim.Native.Nat.{◌-◌}
 use native.Mathlib.Omega.{arith}
-use borrow.Author.Rules.{rules}
-use Rattle.spec_machine.specs.Machine.{State}
 use Rattle.entry_log.proofs.Steps.{no_env, state_held}
-use Rattle.entry_log.proofs.Loops.{Logging, logging_none, logging_held, took_room, logging_on, ended_standing, ended_crowded, ended_spent}
+use Rattle.entry_log.proofs.Loops.{logging_none, logging_held, took_room, logging_on, ended_standing, ended_crowded, ended_spent}
 use Rattle.entry_log.proofs.log_steps.Goals as goal
 
 pub extent_of-extent-requires : goal.extent_of-extent-requires

@@ -1,10 +1,5 @@
-use mathlib.Core.Path.{◌≡◌, sym, ◌∙◌}
 use Prim.Native.Nat.{◌-◌}
-use native.Mathlib.Omega.{arith}
-use borrow.Author.Rules.{rules}
-use Rattle.spec_machine.specs.Machine.{State}
-use Rattle.entry_log.proofs.Steps.{no_env, state_held}
-use Rattle.entry_log.proofs.Loops.{Logging, logging_none, logging_held, took_room, logging_on, ended_standing, ended_crowded, ended_spent}
+use Rattle.entry_log.proofs.Loops.{Logging}
 use Rattle.entry_log.proofs.log_steps.Given as goal
 
 abbrev pub invariant-loop-steps : goal.invariant-loop-steps

@@ -3,7 +3,6 @@ use Rattle.check_file.specs.Answers.{says}
 use Rattle.spec_answers.proofs.Questions.{memory_so}
 use Rattle.run_loop.proofs.Holding.{words_held}
 use Rattle.entry_log.proofs.Calls.{log_refused, log_accepted}
-use borrow.Author.Rules.{rules}
 use Rattle.entry_log.proofs.run_logged.Goals as goal
 
 pub returns-in-Refused : goal.returns-in-Refused

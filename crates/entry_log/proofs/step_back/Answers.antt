@@ -1,5 +1,4 @@
 use mathlib.Core.Path.{sym, ap, ◌∙◌}
-use mathlib.Core.Logic.{⊎_elim}
 use lib.ListN.{length}
 use borrow.Author.Tests.{not-true, not-false}
 use Rattle.check_file.specs.Answers.{says}
@@ -24,9 +23,9 @@ shape_of-m-then-bytes-eq0 c =
 pub returns-then-bytes-eq0 : goal.returns-then-bytes-eq0
 unfolding says
 returns-then-bytes-eq0 c = let e = sym c.check_memory.ensures.answer ∙ ap says c.in_default.is in
-    elim c.then-bytes-eq0.branch
-    [ then-bytes-eq0-via-then-bytes-eq0 w ↦ let q = no_record _ _ _ _ e _ c.last_bytes-bytes.ensures w.if-bytes-eq0.true c.then-bytes-eq0.m w.m-is in record { answer = q.0; small = (search rules, search rules); memory = q.1 }
-    | then-bytes-eq0-via-else-bytes-eq0+then-not-go_back w ↦ let q = not_back _ _ _ _ e _ c.last_bytes-bytes.ensures w.if-bytes-eq0.false _ _ w.go_back.ensures.answer w.go_back.ensures.memory (not-true _ w.if-not-go_back.true-raw) c.then-bytes-eq0.m w.m-is in record { answer = q.0; small = (search rules, search rules); memory = q.1 }
+    elim c.then-bytes-eq0.branch [
+      | then-bytes-eq0-via-then-bytes-eq0 w ↦ let q = no_record _ _ _ _ e _ c.last_bytes-bytes.ensures w.if-bytes-eq0.true c.then-bytes-eq0.m w.m-is in record { answer = q.0; small = (search rules, search rules); memory = q.1 }
+      | then-bytes-eq0-via-else-bytes-eq0+then-not-go_back w ↦ let q = not_back _ _ _ _ e _ c.last_bytes-bytes.ensures w.if-bytes-eq0.false _ _ w.go_back.ensures.answer w.go_back.ensures.memory (not-true _ w.if-not-go_back.true-raw) c.then-bytes-eq0.m w.m-is in record { answer = q.0; small = (search rules, search rules); memory = q.1 }
     ]
 
 pub overflow_sub-result : goal.overflow_sub-result

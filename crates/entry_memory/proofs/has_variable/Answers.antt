@@ -1,7 +1,6 @@
 use native.Mathlib.Omega.{arith}
 use Rattle.fit_state.proofs.Rests.{few, some}
 use Rattle.entry_memory.proofs.Current.{none_given, count_given}
-use borrow.Author.Rules.{rules}
 use Rattle.entry_memory.proofs.has_variable.Goals as goal
 
 pub returns-then-m-ne-TAG_RUNNING : goal.returns-then-m-ne-TAG_RUNNING

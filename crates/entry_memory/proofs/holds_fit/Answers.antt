@@ -1,6 +1,5 @@
 use borrow.Author.Tests.{not-true, not-false}
 use Rattle.entry_memory.proofs.Questions.{image_held, no_image, an_image}
-use borrow.Author.Rules.{rules}
 use Rattle.entry_memory.proofs.holds_fit.Goals as goal
 
 pub returns-then-not-holds_image : goal.returns-then-not-holds_image

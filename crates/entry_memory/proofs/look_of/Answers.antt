@@ -2,7 +2,6 @@ use mir.Syntax.{w32}
 use mir.ValLaws.{to_z-of_z}
 use Rattle.state_words.specs.Meaning.{value_is}
 use Rattle.entry_memory.specs.Looks.{look_of}
-use borrow.Author.Rules.{rules}
 use Rattle.entry_memory.proofs.look_of.Goals as goal
 
 pub returns-in-Nothing : goal.returns-in-Nothing

@@ -2,7 +2,6 @@ use mathlib.Core.Path.{◌∙◌}
 use native.Mathlib.Omega.{arith}
 use Rattle.fit_state.proofs.Rests.{few, some}
 use Rattle.entry_memory.proofs.Current.{given_runs, given_few, value_given}
-use borrow.Author.Rules.{rules}
 use Rattle.entry_memory.proofs.value_in.Goals as goal
 
 pub overflow_cast-a : goal.overflow_cast-a

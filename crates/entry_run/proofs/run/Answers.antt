@@ -1,7 +1,6 @@
 use mathlib.Core.Path.{sym, ap, ◌∙◌}
 use Rattle.check_file.specs.Answers.{says}
 use Rattle.entry_run.proofs.Runs.{run_refused, run_held, run_room, run_accepted}
-use borrow.Author.Rules.{rules}
 use Rattle.entry_run.proofs.run.Goals as goal
 
 pub returns-in-Refused : goal.returns-in-Refused

@@ -3,7 +3,6 @@ use Prim.Native.Nat.{ℕ}
 use mathlib.Core.List.{List}
 use mathlib.Core.Path.{ap}
 use Rattle.entry_start.proofs.Starts.{start_words}
-use borrow.Author.Rules.{rules}
 use Rattle.entry_start.proofs.write_start.Goals as goal
 
 pub returns : goal.returns

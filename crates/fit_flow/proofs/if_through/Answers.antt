@@ -4,7 +4,6 @@ use Rattle.fit_flow.proofs.Trees.{loop_if}
 use Rattle.fit_nodes.proofs.AcceptedParts.{inside, loop-above}
 use native.Mathlib.Omega.{arith}
 use mathlib.Core.Path.{refl}
-use borrow.Author.Rules.{rules}
 use Rattle.fit_flow.proofs.if_through.Goals as goal
 
 pub overflow_sub-w : goal.overflow_sub-w

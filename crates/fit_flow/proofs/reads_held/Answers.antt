@@ -3,7 +3,6 @@ use Rattle.fit_flow.proofs.Looking.{row_room, expression_row}
 use Rattle.fit_nodes.proofs.Sorts.{expression_inside}
 use Rattle.spec_machine.specs.File.{program_of}
 use mathlib.Core.Path.{◌∙◌}
-use borrow.Author.Rules.{rules}
 use Rattle.fit_flow.proofs.reads_held.Goals as goal
 
 pub needs_at-requires : goal.needs_at-requires

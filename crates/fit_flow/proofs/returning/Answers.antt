@@ -4,7 +4,6 @@ use Rattle.fit_nodes.proofs.Refs.{node_is, node_within, seq_within}
 use Rattle.fit_flow.proofs.Refs.{seq_above, nop_returns, node_returns, if_returning, seq_returning}
 use native.Mathlib.Omega.{arith}
 use mathlib.Core.Path.{sym, ◌∙◌}
-use borrow.Author.Rules.{rules}
 use Rattle.fit_flow.proofs.returning.Goals as goal
 
 pub row_at-requires : goal.row_at-requires

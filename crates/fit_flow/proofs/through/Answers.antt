@@ -2,7 +2,6 @@ use Rattle.fit_flow.proofs.Looking.{row_room, statement_row}
 use Rattle.fit_nodes.proofs.Refs.{node_is, node_within, if-within, seq_within}
 use Rattle.fit_flow.proofs.Refs.{nop_flows, node_flows, if_flows, seq_flows}
 use mathlib.Core.Path.{◌∙◌}
-use borrow.Author.Rules.{rules}
 use Rattle.fit_flow.proofs.through.Goals as goal
 
 pub row_through-requires : goal.row_through-requires

@@ -1,6 +1,5 @@
 use borrow.Author.Tests.{not-true, not-false}
 use Rattle.fit_frames.proofs.Steps.{and_none, and_kind, and_law}
-use borrow.Author.Rules.{rules}
 use Rattle.fit_frames.proofs.and_step.Goals as goal
 
 pub returns-then-not-d : goal.returns-then-not-d

@@ -7,7 +7,6 @@ use Rattle.spec_image.specs.Decode.{operands}
 use Rattle.spec_language.specs.Types.{mask_type}
 use Rattle.fit_frames.proofs.Steps.{gather_none, gather_unknown, gather_law}
 use Rattle.fit_frames.proofs.Files.{laid, record_in_lem, call_wants}
-use borrow.Author.Rules.{rules}
 use Rattle.fit_frames.proofs.call_step.Goals as goal
 
 pub returns-then-not-d : goal.returns-then-not-d

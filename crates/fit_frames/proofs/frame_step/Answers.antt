@@ -3,7 +3,6 @@ use Rattle.spec_image.specs.Decode.{frames}
 use Rattle.fit_frames.proofs.Forms.{frame_in_lem, frame_else}
 use Rattle.fit_frames.proofs.Steps.{check_law, discard_law}
 use Rattle.fit_frames.proofs.Files.{record_in_lem}
-use borrow.Author.Rules.{rules}
 use Rattle.fit_frames.proofs.frame_step.Goals as goal
 
 pub leave_step-requires : goal.leave_step-requires

@@ -4,7 +4,6 @@ use Rattle.spec_language.specs.Types.{mask_type, operator_type}
 use Rattle.spec_machine.specs.File.{types_from}
 use Rattle.spec_image.specs.Decode.{operands}
 use Rattle.fit_frames.proofs.Steps.{gather_none, gather_unknown, gather_law}
-use borrow.Author.Rules.{rules}
 use Rattle.fit_frames.proofs.operator_step.Goals as goal
 
 pub returns-then-not-d : goal.returns-then-not-d

@@ -1,6 +1,5 @@
 use native.Mathlib.Omega.{arith}
 use Rattle.fit_image.proofs.Ways.{variables_many, variables_few}
-use borrow.Author.Rules.{rules}
 use Rattle.fit_image.proofs.activation_ok.Goals as goal
 
 pub returns-then-count-gt-VARIABLE_ROOM : goal.returns-then-count-gt-VARIABLE_ROOM

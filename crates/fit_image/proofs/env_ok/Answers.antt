@@ -1,6 +1,5 @@
 use mathlib.Core.Path.{sym, ◌∙◌}
 use Rattle.fit_image.proofs.Environments.{env_blank, env_whole}
-use borrow.Author.Rules.{rules}
 use Rattle.fit_image.proofs.env_ok.Goals as goal
 
 pub returns-then-all_zero : goal.returns-then-all_zero

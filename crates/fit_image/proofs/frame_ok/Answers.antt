@@ -1,6 +1,5 @@
 use mathlib.Core.Path.{◌∙◌}
 use Rattle.fit_image.proofs.Ways.{kind_none, kind_gather, kind_one, kind_two, kind_bare, kind_past}
-use borrow.Author.Rules.{rules}
 use Rattle.fit_image.proofs.frame_ok.Goals as goal
 
 pub returns-then-kind-lt1 : goal.returns-then-kind-lt1

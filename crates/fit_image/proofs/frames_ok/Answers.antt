@@ -1,9 +1,7 @@
-use Prim.Native.Nat.{◌≤◌}
-use mathlib.Core.Path.{◌≡◌, refl, sym, ◌∙◌}
+use mathlib.Core.Path.{refl, sym, ◌∙◌}
 use native.Mathlib.Omega.{arith}
 use borrow.Author.Tests.{not-true, not-false}
 use Rattle.fit_image.specs.BlockTests.{frame_ok}
-use Rattle.fit_image.specs.MemoryTest.{passing}
 use Rattle.fit_image.proofs.Loops.{passing_more, passing_less, passing_end}
 use Rattle.fit_image.proofs.Rooms.{frames_less, frames_end}
 use borrow.Author.Rules.{rules}

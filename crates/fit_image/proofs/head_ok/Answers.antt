@@ -1,5 +1,4 @@
 use Rattle.fit_image.specs.MemoryTest.{head_ok}
-use borrow.Author.Rules.{rules}
 use Rattle.fit_image.proofs.head_ok.Goals as goal
 
 pub returns : goal.returns

@@ -1,7 +1,6 @@
 use Rattle.fit_image.proofs.Sound.{image_sound}
 use Rattle.fit_image.proofs.Complete.{image_complete}
 use mathlib.Core.Path.{sym, ◌∙◌}
-use borrow.Author.Rules.{rules}
 use Rattle.fit_image.proofs.holds_image.Goals as goal
 
 pub returns : goal.returns

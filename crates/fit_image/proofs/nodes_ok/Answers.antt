@@ -1,8 +1,6 @@
-use Prim.Native.Nat.{◌≤◌, ◌*◌, ◌-◌}
-use mathlib.Core.Path.{◌≡◌, ◌∙◌, sym}
+use Prim.Native.Nat.{◌*◌, ◌-◌}
+use mathlib.Core.Path.{◌∙◌, sym}
 use native.Mathlib.Omega.{arith}
-use lib.ListN.{drop}
-use Rattle.fit_image.specs.BlockTests.{nodes_ok}
 use Rattle.fit_image.proofs.Loops.{nodes_start, nodes_more, nodes_less, nodes_end}
 use borrow.Author.Rules.{rules}
 use Rattle.fit_image.proofs.nodes_ok.Goals as goal

@@ -1,10 +1,7 @@
 use Prim.Native.Nat.{◌≤◌, ◌*◌, ◌-◌}
-use mathlib.Core.Path.{◌≡◌, ◌∙◌, sym}
-use native.Mathlib.Omega.{arith}
+use mathlib.Core.Path.{◌≡◌}
 use lib.ListN.{drop}
 use Rattle.fit_image.specs.BlockTests.{nodes_ok}
-use Rattle.fit_image.proofs.Loops.{nodes_start, nodes_more, nodes_less, nodes_end}
-use borrow.Author.Rules.{rules}
 use Rattle.fit_image.proofs.nodes_ok.Given as goal
 
 abbrev pub invariant-loop-i : goal.invariant-loop-i

@@ -1,6 +1,5 @@
 use native.Mathlib.Omega.{arith}
 use Rattle.fit_image.proofs.Ways.{operands_many, operands_few}
-use borrow.Author.Rules.{rules}
 use Rattle.fit_image.proofs.operands_ok.Goals as goal
 
 pub returns-then-y-gt-SLOT_ROOM : goal.returns-then-y-gt-SLOT_ROOM

@@ -1,7 +1,6 @@
 use Rattle.fit_image.specs.MemoryTest.{tag_ok}
 use Rattle.fit_image.proofs.NoSuchTags.{no_tag}
 use mathlib.Core.Path.{sym}
-use borrow.Author.Rules.{rules}
 use Rattle.fit_image.proofs.tag_ok.Goals as goal
 
 pub returns-in-1 : goal.returns-in-1

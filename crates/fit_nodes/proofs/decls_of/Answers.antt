@@ -1,5 +1,4 @@
 use Rattle.fit_nodes.proofs.AcceptedParts.{inside, named}
-use borrow.Author.Rules.{rules}
 use Rattle.fit_nodes.proofs.decls_of.Goals as goal
 
 pub decl_table-requires : goal.decl_table-requires

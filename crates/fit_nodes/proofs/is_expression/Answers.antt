@@ -1,4 +1,3 @@
-use borrow.Author.Rules.{rules}
 use native.Mathlib.Omega.{arith}
 use Rattle.fit_nodes.proofs.AcceptedParts.{inside}
 use Rattle.fit_nodes.proofs.Sorts.{not_own, own_expression}

@@ -1,7 +1,6 @@
 use mathlib.Core.Path.{◌∙◌}
 use Rattle.fit_nodes.proofs.AcceptedParts.{inside}
 use Rattle.fit_nodes.proofs.Refs.{nop_is, node_is, if_is, seq_is}
-use borrow.Author.Rules.{rules}
 use Rattle.fit_nodes.proofs.is_statement.Goals as goal
 
 pub is_statement_node-requires : goal.is_statement_node-requires

@@ -1,5 +1,4 @@
 use borrow.Author.Tests.{le-ltb, lt-ltb}
-use borrow.Author.Rules.{rules}
 use Rattle.fit_nodes.proofs.is_while.Goals as goal
 
 pub returns-then-n-at : goal.returns-then-n-at

@@ -11,7 +11,6 @@ use Rattle.fit_state.specs.Meaning.{over_is}
 use Rattle.fit_state.proofs.Values.{holds_count}
 use Rattle.fit_state.proofs.Lists.{activation_unknown, activation_wrong, activation_whole}
 use Rattle.state_words.proofs.Totals.{frames_of_lem}
-use borrow.Author.Rules.{rules}
 use Rattle.fit_state.proofs.activation_fits.Goals as goal
 
 pub function_count-requires : goal.function_count-requires

@@ -1,5 +1,4 @@
 use Rattle.fit_nodes.proofs.AcceptedParts.{well-formed}
-use borrow.Author.Rules.{rules}
 use Rattle.fit_state.proofs.activation_with.Goals as goal
 
 pub activation_in-requires : goal.activation_in-requires

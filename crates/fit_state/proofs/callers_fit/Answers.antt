@@ -1,15 +1,11 @@
-use lib.ListN.{length, get_or}
+use lib.ListN.{get_or}
 use mathlib.Core.Path.{◌≡◌, refl, sym, ◌∙◌}
-use Prim.Native.Nat.{◌-◌, ◌≤◌, ◌<◌}
+use Prim.Native.Nat.{◌-◌}
 use native.Mathlib.Omega.{arith}
 use borrow.Author.Tests.{not-true, not-false, ltb-true}
-use Rattle.records.specs.Fields.{functions, count_of}
-use Rattle.records.specs.Parts.{part_of}
-use Rattle.check_summary.specs.Tables.{RowsFilled}
 use Rattle.spec_machine.specs.File.{program_of, fun_of}
-use Rattle.spec_image.specs.Decode.{activations_to, held_in}
 use Rattle.fit_frames.proofs.Files.{record_in_lem}
-use Rattle.fit_state.specs.Activations.{calls, callers_fit}
+use Rattle.fit_state.specs.Activations.{calls}
 use Rattle.fit_state.specs.Meaning.{over_is, frames_to}
 use Rattle.fit_state.proofs.Lists.{callers_less, callers_more, callers_end, fit_known, held_last}
 use Rattle.state_words.proofs.Totals.{total_last}

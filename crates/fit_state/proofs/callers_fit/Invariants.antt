@@ -1,19 +1,13 @@
 use lib.ListN.{length, get_or}
-use mathlib.Core.Path.{◌≡◌, refl, sym, ◌∙◌}
+use mathlib.Core.Path.{◌≡◌}
 use Prim.Native.Nat.{◌-◌, ◌≤◌, ◌<◌}
-use native.Mathlib.Omega.{arith}
-use borrow.Author.Tests.{not-true, not-false, ltb-true}
 use Rattle.records.specs.Fields.{functions, count_of}
 use Rattle.records.specs.Parts.{part_of}
 use Rattle.check_summary.specs.Tables.{RowsFilled}
-use Rattle.spec_machine.specs.File.{program_of, fun_of}
+use Rattle.spec_machine.specs.File.{program_of}
 use Rattle.spec_image.specs.Decode.{activations_to, held_in}
-use Rattle.fit_frames.proofs.Files.{record_in_lem}
-use Rattle.fit_state.specs.Activations.{calls, callers_fit}
-use Rattle.fit_state.specs.Meaning.{over_is, frames_to}
-use Rattle.fit_state.proofs.Lists.{callers_less, callers_more, callers_end, fit_known, held_last}
-use Rattle.state_words.proofs.Totals.{total_last}
-use borrow.Author.Rules.{rules}
+use Rattle.fit_state.specs.Activations.{callers_fit}
+use Rattle.fit_state.specs.Meaning.{frames_to}
 use Rattle.fit_state.proofs.callers_fit.Given as goal
 
 abbrev pub invariant-loop-a : goal.invariant-loop-a

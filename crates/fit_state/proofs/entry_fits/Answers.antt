@@ -1,7 +1,6 @@
 use Rattle.spec_machine.specs.File.{program_of}
 use Rattle.spec_machine.proofs.Files.{accepted_program}
 use Rattle.fit_state.proofs.Entries.{entry_law}
-use borrow.Author.Rules.{rules}
 use Rattle.fit_state.proofs.entry_fits.Goals as goal
 
 pub returns : goal.returns

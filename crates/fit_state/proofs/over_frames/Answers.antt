@@ -1,6 +1,5 @@
 use mathlib.Core.Path.{refl}
 use Rattle.fit_state.specs.Meaning.{over_is}
-use borrow.Author.Rules.{rules}
 use Rattle.fit_state.proofs.over_frames.Goals as goal
 
 pub returns-in-Running : goal.returns-in-Running

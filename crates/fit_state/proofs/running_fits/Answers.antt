@@ -12,7 +12,6 @@ use borrow.Author.Tests.{not-true, not-false, ltb-true}
 use lib.ListN.{get_or}
 use native.Mathlib.Omega.{arith}
 use mathlib.Core.Path.{sym, ◌∙◌}
-use borrow.Author.Rules.{rules}
 use Rattle.fit_state.proofs.running_fits.Goals as goal
 
 pub overflow_cast-n : goal.overflow_cast-n

@@ -2,7 +2,6 @@ use mathlib.Core.Path.{sym, ◌∙◌}
 use native.Mathlib.Omega.{arith}
 use Rattle.spec_log.proofs.Changes.{changes_few}
 use Rattle.log_records.proofs.Ranges.{low_length, apart_count}
-use borrow.Author.Rules.{rules}
 use Rattle.log_records.proofs.count_changes.Goals as goal
 
 pub slice_bounds-differing-end : goal.slice_bounds-differing-end

@@ -1,10 +1,8 @@
-use mathlib.Core.Path.{◌≡◌, ap, ◌∙◌}
-use mathlib.Core.Logic.{⊎_elim}
-use Prim.Native.Nat.{◌≤◌, ◌-◌, ◌+◌}
+use mathlib.Core.Path.{ap}
+use Prim.Native.Nat.{◌-◌}
 use native.Mathlib.Omega.{arith}
-use lib.ListN.{length, drop}
+use lib.ListN.{length}
 use borrow.Author.Rules.{rules}
-use Rattle.spec_log.specs.Changes.{changes}
 use Rattle.spec_log.proofs.Changes.{none_more}
 use Rattle.log_records.proofs.Counts.{count_anywhere, count_other, count_same}
 use Rattle.log_records.proofs.differing.Goals.{then-a-i, else-a-i}
@@ -15,9 +13,9 @@ loop-i-init c = (search rules, search rules, search rules)
 
 pub loop-i-preserved : goal.loop-i-preserved
 loop-i-preserved c = let l = c.loop-i in
-    elim c.if-a-i.branch
-    [ then-a-i w ↦ (search rules, omega (arith, w.k-is, l.invariant.1), count_other c.args.a.now c.args.b.now l.k c.if-a-i.k l.i _ c.loop-i-test.true c.requires.0 w.if-a-i.true w.k-is l.invariant.2)
-    | else-a-i w ↦ (search rules, omega (arith, w.k-is, l.invariant.1), count_same c.args.a.now c.args.b.now l.k c.if-a-i.k l.i _ c.loop-i-test.true c.requires.0 w.if-a-i.false w.k-is l.invariant.2)
+    elim c.if-a-i.branch [
+      | then-a-i w ↦ (search rules, omega (arith, w.k-is, l.invariant.1), count_other c.args.a.now c.args.b.now l.k c.if-a-i.k l.i _ c.loop-i-test.true c.requires.0 w.if-a-i.true w.k-is l.invariant.2)
+      | else-a-i w ↦ (search rules, omega (arith, w.k-is, l.invariant.1), count_same c.args.a.now c.args.b.now l.k c.if-a-i.k l.i _ c.loop-i-test.true c.requires.0 w.if-a-i.false w.k-is l.invariant.2)
     ]
 
 pub returns : goal.returns

@@ -1,7 +1,6 @@
 use mathlib.Core.Path.{sym, ◌∙◌}
 use native.Mathlib.Omega.{arith}
 use Rattle.log_records.proofs.Ranges.{low_length, apart_count, second_room, both_put}
-use borrow.Author.Rules.{rules}
 use Rattle.log_records.proofs.put_all_changes.Goals as goal
 
 pub slice_bounds-put_changes-end-2 : goal.slice_bounds-put_changes-end-2

@@ -4,7 +4,6 @@ use Prim.Native.Nat.{ℕ, ◌+◌}
 use Rattle.words.specs.Blocks.{puts}
 use Rattle.words.proofs.Moves.{puts_next}
 use Rattle.spec_log.specs.Records.{two, four}
-use borrow.Author.Rules.{rules}
 use Rattle.log_records.proofs.put_change.Goals as goal
 
 pub returns : goal.returns

@@ -2,8 +2,7 @@ use mathlib.Core.Path.{sym, ◌∙◌}
 use Prim.Native.Nat.{◌+◌, ◌-◌}
 use native.Mathlib.Omega.{arith}
 use lib.ListN.{length}
-use borrow.Author.Rules.{rules}
-use Rattle.log_records.proofs.Puts.{Putting, put_none, put_all}
+use Rattle.log_records.proofs.Puts.{put_none, put_all}
 use Rattle.log_records.proofs.Pieces.{piece_room, piece_put, piece_same}
 use Rattle.log_records.proofs.put_changes.Goals as goal
 

@@ -1,10 +1,5 @@
-use mathlib.Core.Path.{sym, ◌∙◌}
-use Prim.Native.Nat.{◌+◌, ◌-◌}
-use native.Mathlib.Omega.{arith}
-use lib.ListN.{length}
-use borrow.Author.Rules.{rules}
-use Rattle.log_records.proofs.Puts.{Putting, put_none, put_all}
-use Rattle.log_records.proofs.Pieces.{piece_room, piece_put, piece_same}
+use Prim.Native.Nat.{◌-◌}
+use Rattle.log_records.proofs.Puts.{Putting}
 use Rattle.log_records.proofs.put_changes.Given as goal
 
 abbrev pub invariant-loop-i : goal.invariant-loop-i

@@ -1,10 +1,6 @@
-use mathlib.Core.Path.{◌≡◌, refl, sym, ap, ◌∙◌}
-use mathlib.Core.Logic.{⊎_elim}
+use mathlib.Core.Path.{◌∙◌}
 use Prim.Native.Nat.{◌-◌}
-use native.Mathlib.Omega.{arith}
-use lib.ListN.{length}
-use borrow.Author.Rules.{rules}
-use Rattle.log_records.proofs.Puts.{Putting, put_none, same_put, put_room, other_put, put_all}
+use Rattle.log_records.proofs.Puts.{put_none, same_put, put_room, other_put, put_all}
 use Rattle.log_records.proofs.put_each.Goals.{then-old-new, else-old-new}
 use Rattle.log_records.proofs.put_each.Goals as goal
 
@@ -16,9 +12,9 @@ put_change-requires c = put_room c.loop-i.invariant c.loop-i-test.true c.require
 
 pub loop-i-preserved : goal.loop-i-preserved
 loop-i-preserved c =
-    elim c.if-old-new.branch
-    [ then-old-new w ↦ other_put c.loop-i.invariant c.loop-i-test.true c.requires.0 _ _ _ (w.log-is ∙ w.put_change.ensures) w.a-is w.next-is w.if-old-new.true
-    | else-old-new w ↦ same_put c.loop-i.invariant c.loop-i-test.true c.requires.0 w.if-old-new.false _ _ _ w.log-is w.a-is w.next-is
+    elim c.if-old-new.branch [
+      | then-old-new w ↦ other_put c.loop-i.invariant c.loop-i-test.true c.requires.0 _ _ _ (w.log-is ∙ w.put_change.ensures) w.a-is w.next-is w.if-old-new.true
+      | else-old-new w ↦ same_put c.loop-i.invariant c.loop-i-test.true c.requires.0 w.if-old-new.false _ _ _ w.log-is w.a-is w.next-is
     ]
 
 pub returns : goal.returns

@@ -1,6 +1,5 @@
 use native.Mathlib.Omega.{arith}
 use lib.ListN.{length-set}
-use borrow.Author.Rules.{rules}
 use Rattle.log_records.proofs.put_u16.Goals as goal
 
 pub bounds-log-at-2 : goal.bounds-log-at-2

@@ -1,7 +1,6 @@
 use mathlib.Core.Path.{refl}
 use Prim.Native.Nat.{◌-◌}
-use borrow.Author.Rules.{rules}
-use Rattle.log_records.proofs.Puts.{Laying, lay_none, lay_one, lay_all}
+use Rattle.log_records.proofs.Puts.{lay_none, lay_one, lay_all}
 use Rattle.log_records.proofs.put_words.Goals as goal
 
 pub loop-i-init : goal.loop-i-init

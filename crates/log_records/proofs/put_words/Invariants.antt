@@ -1,7 +1,5 @@
-use mathlib.Core.Path.{refl}
 use Prim.Native.Nat.{◌-◌}
-use borrow.Author.Rules.{rules}
-use Rattle.log_records.proofs.Puts.{Laying, lay_none, lay_one, lay_all}
+use Rattle.log_records.proofs.Puts.{Laying}
 use Rattle.log_records.proofs.put_words.Given as goal
 
 abbrev pub invariant-loop-i : goal.invariant-loop-i

@@ -1,4 +1,3 @@
-use borrow.Author.Rules.{rules}
 use Rattle.log_records.proofs.RecordLengths.{few_length, whole_length}
 use Rattle.log_records.proofs.record_bytes.Goals as goal
 

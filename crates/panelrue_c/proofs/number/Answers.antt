@@ -1,7 +1,6 @@
 use mathlib.Core.Path.{◌∙◌}
 use Rattle.check_file.specs.Answers.{says}
 use Rattle.panelrue_c.specs.Packed.{packed}
-use borrow.Author.Rules.{rules}
 use Rattle.panelrue_c.proofs.number.Goals as goal
 
 pub pack-requires : goal.pack-requires

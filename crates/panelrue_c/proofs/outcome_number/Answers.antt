@@ -1,5 +1,4 @@
 use Rattle.panelrue_c.specs.HostAnswers.{outcome_number}
-use borrow.Author.Rules.{rules}
 use Rattle.panelrue_c.proofs.outcome_number.Goals as goal
 
 pub returns-in-Value : goal.returns-in-Value

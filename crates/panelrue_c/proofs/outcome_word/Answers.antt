@@ -1,7 +1,6 @@
 use mir.Syntax.{w32}
 use mir.ValLaws.{to_z-of_z}
 use Rattle.panelrue_c.specs.HostAnswers.{outcome_word}
-use borrow.Author.Rules.{rules}
 use Rattle.panelrue_c.proofs.outcome_word.Goals as goal
 
 pub returns-in-Value : goal.returns-in-Value

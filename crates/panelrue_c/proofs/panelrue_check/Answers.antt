@@ -1,7 +1,6 @@
 use mathlib.Core.Path.{sym, ◌∙◌, ap}
 use Rattle.panelrue_c.specs.Packed.{packed}
 use Rattle.check_file.proofs.Stages.{one_fails}
-use borrow.Author.Rules.{rules}
 use Rattle.panelrue_c.proofs.panelrue_check.Goals as goal
 
 pub returns-then-is_cut : goal.returns-then-is_cut

@@ -2,7 +2,6 @@ use mir.Syntax.{w32}
 use mir.ValLaws.{to_z-of_z}
 use mathlib.Core.Path.{sym, ◌∙◌}
 use Rattle.panelrue_c.specs.HostAnswers.{look_number, look_words}
-use borrow.Author.Rules.{rules}
 use Rattle.panelrue_c.proofs.panelrue_look_up.Goals as goal
 
 pub pack-requires : goal.pack-requires

@@ -1,6 +1,5 @@
 use mathlib.Core.Path.{ap, ◌∙◌}
 use Rattle.panelrue_c.specs.Packed.{packed}
-use borrow.Author.Rules.{rules}
 use Rattle.panelrue_c.proofs.panelrue_memory_check.Goals as goal
 
 pub returns : goal.returns

@@ -1,6 +1,5 @@
 use mathlib.Core.Path.{sym, ◌∙◌}
 use Rattle.panelrue_c.specs.HostAnswers.{run_number, run_words}
-use borrow.Author.Rules.{rules}
 use Rattle.panelrue_c.proofs.panelrue_run.Goals as goal
 
 pub pack-requires : goal.pack-requires

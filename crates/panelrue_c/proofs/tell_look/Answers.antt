@@ -1,5 +1,4 @@
 use borrow.Author.Tests.{le-leb, lt-leb}
-use borrow.Author.Rules.{rules}
 use Rattle.panelrue_c.proofs.tell_look.Goals as goal
 
 pub returns-then-answer-lt2 : goal.returns-then-answer-lt2

@@ -2,7 +2,6 @@ use native.Mathlib.Omega.{arith}
 use Rattle.panelrue_c.specs.HostAnswers.{run_words}
 use lib.ListN.{length-set}
 use borrow.Author.Tests.{le-leb, lt-leb}
-use borrow.Author.Rules.{rules}
 use Rattle.panelrue_c.proofs.tell_run.Goals as goal
 
 pub returns-then-answer-lt3 : goal.returns-then-answer-lt3

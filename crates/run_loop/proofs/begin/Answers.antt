@@ -7,7 +7,6 @@ use Rattle.run_step.proofs.Leaves.{pos}
 use Rattle.spec_image.specs.Layout.{env_words}
 use Rattle.spec_image.specs.Image.{env_part}
 use Rattle.run_loop.proofs.Starting.{cleared, two_set, main_spent, file_laid, main_known, begun_fit, begun_describes, begun_at_fit, begun_ends}
-use borrow.Author.Rules.{rules}
 use Rattle.run_loop.proofs.begin.Goals as goal
 
 pub returns-then-allowed-eq0 : goal.returns-then-allowed-eq0

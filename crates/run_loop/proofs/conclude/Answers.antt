@@ -4,7 +4,6 @@ use native.Mathlib.Omega.{arith}
 use native.Mathlib.Nat.{sub-zero}
 use Rattle.spec_image.specs.Image.{env_part}
 use Rattle.run_loop.proofs.Starting.{cleared}
-use borrow.Author.Rules.{rules}
 use Rattle.run_loop.proofs.conclude.Goals as goal
 
 pub bounds-m-1 : goal.bounds-m-1

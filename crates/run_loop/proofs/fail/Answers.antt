@@ -1,7 +1,6 @@
 use mathlib.Core.Path.{refl}
 use Rattle.spec_machine.specs.Machine.{exception}
 use Rattle.run_loop.proofs.Ending.{raised_rests, raised_emptied}
-use borrow.Author.Rules.{rules}
 use Rattle.run_loop.proofs.fail.Goals as goal
 
 pub returns : goal.returns

@@ -3,7 +3,6 @@ use mir.Syntax.{w32}
 use mir.ValLaws.{to_z-of_z}
 use Rattle.spec_machine.specs.Machine as machine
 use Rattle.run_loop.proofs.Ending.{value_emptied, returned_emptied, value_rests, returned_rests, ends_step, ends_returned, ends_value}
-use borrow.Author.Rules.{rules}
 use Rattle.run_loop.proofs.finish.Goals as goal
 
 pub returns-then-steps-allowed : goal.returns-then-steps-allowed

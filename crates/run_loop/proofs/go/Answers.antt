@@ -1,20 +1,12 @@
 use Rattle.run_loop.proofs.Ending.{ends_spent}
-use mathlib.Core.Path.{◌≡◌, refl, ◌∙◌}
-use mathlib.Core.List.{List, ◌++◌}
-use Prim.Native.Nat.{ℕ, ◌+◌, ◌-◌, ◌≤◌}
+use mathlib.Core.Path.{refl, ◌∙◌}
+use mathlib.Core.List.{◌++◌}
+use Prim.Native.Nat.{◌+◌, ◌-◌}
 use native.Mathlib.Omega.{arith}
-use borrow.Author.Rules.{rules}
-use lib.ListN.{length}
-use Rattle.spec_machine.specs.Values.{Value}
 use Rattle.spec_machine.specs.Machine as machine
-use Rattle.spec_machine.specs.Machine.{Frame, Saved, RunEnv, running}
-use Rattle.spec_machine.specs.Fit.{Fit}
 use Rattle.spec_machine.specs.File.{program_of}
 use Rattle.spec_image.specs.Layout.{env_words}
-use Rattle.spec_image.specs.Core.{core}
-use Rattle.state_words.specs.Meaning.{control_is}
-use Rattle.run_rules.specs.StepsTo.{Describes}
-use Rattle.run_loop.proofs.Reaching.{Reached, reached, reached_at_fit, reached_on, reached_full, reached_returned, reached_arith, reached_abort, reached_bounds}
+use Rattle.run_loop.proofs.Reaching.{reached, reached_at_fit, reached_on, reached_full, reached_returned, reached_arith, reached_abort, reached_bounds}
 use Rattle.run_loop.proofs.go.Goals as goal
 
 pub loop-steps-init : goal.loop-steps-init

@@ -1,12 +1,8 @@
-use Rattle.run_loop.proofs.Ending.{ends_spent}
-use mathlib.Core.Path.{◌≡◌, refl, ◌∙◌}
+use mathlib.Core.Path.{◌≡◌}
 use mathlib.Core.List.{List, ◌++◌}
 use Prim.Native.Nat.{ℕ, ◌+◌, ◌-◌, ◌≤◌}
-use native.Mathlib.Omega.{arith}
-use borrow.Author.Rules.{rules}
 use lib.ListN.{length}
 use Rattle.spec_machine.specs.Values.{Value}
-use Rattle.spec_machine.specs.Machine as machine
 use Rattle.spec_machine.specs.Machine.{Frame, Saved, RunEnv, running}
 use Rattle.spec_machine.specs.Fit.{Fit}
 use Rattle.spec_machine.specs.File.{program_of}
@@ -14,7 +10,7 @@ use Rattle.spec_image.specs.Layout.{env_words}
 use Rattle.spec_image.specs.Core.{core}
 use Rattle.state_words.specs.Meaning.{control_is}
 use Rattle.run_rules.specs.StepsTo.{Describes}
-use Rattle.run_loop.proofs.Reaching.{Reached, reached, reached_at_fit, reached_on, reached_full, reached_returned, reached_arith, reached_abort, reached_bounds}
+use Rattle.run_loop.proofs.Reaching.{Reached}
 use Rattle.run_loop.proofs.go.Given as goal
 
 abbrev pub invariant-loop-steps : goal.invariant-loop-steps

@@ -5,7 +5,6 @@ use Rattle.state_words.specs.Meaning.{activation_at}
 use Rattle.records.proofs.StartTables.{start_at}
 use Rattle.run_loop.proofs.Starting.{file_laid}
 use Rattle.run_loop.proofs.Resuming.{resumed_count, resumed_few, resumed_known, resumed_control, resumed_callers, resumed_function, resumed_frames, resumed_total, resumed_describes, resumed_at_fit, resumed_run}
-use borrow.Author.Rules.{rules}
 use Rattle.run_loop.proofs.proceed.Goals as goal
 
 pub starts_of-starts-requires : goal.starts_of-starts-requires

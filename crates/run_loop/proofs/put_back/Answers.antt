@@ -5,7 +5,6 @@ use Rattle.spec_image.specs.Layout.{control_words}
 use Rattle.spec_image.specs.Decode.{ref_of}
 use Rattle.spec_image.proofs.ValueWords.{ref_word_lem}
 use Rattle.state_words.specs.Meaning.{control_is}
-use borrow.Author.Rules.{rules}
 use Rattle.run_loop.proofs.put_back.Goals as goal
 
 pub returns-in-Nothing : goal.returns-in-Nothing

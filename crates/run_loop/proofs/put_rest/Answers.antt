@@ -1,7 +1,6 @@
 use lib.ListN.{length-set}
 use native.Mathlib.Omega.{arith}
 use Rattle.run_loop.proofs.Ending.{rest_stored}
-use borrow.Author.Rules.{rules}
 use Rattle.run_loop.proofs.put_rest.Goals as goal
 
 pub bounds-m-1 : goal.bounds-m-1

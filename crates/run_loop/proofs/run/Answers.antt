@@ -1,7 +1,6 @@
 use mir.Syntax.{w32}
 use mir.ValLaws.{to_z-of_z}
 use Rattle.run_loop.proofs.Tags.{at_main, at_running, at_returned, at_value, at_arith, at_abort, begins, proceeds}
-use borrow.Author.Rules.{rules}
 use Rattle.run_loop.proofs.run.Goals as goal
 
 pub begin-requires : goal.begin-requires

@@ -5,7 +5,6 @@ use mathlib.Core.List.{◌∷◌}
 use native.Mathlib.Omega.{arith}
 use Rattle.spec_image.specs.Decode.{ref_of}
 use Rattle.state_words.specs.Meaning.{control_is}
-use borrow.Author.Rules.{rules}
 use Rattle.run_rules.proofs.assign.Goals as goal
 
 pub returns : goal.returns

@@ -1,12 +1,8 @@
 use mathlib.Core.Path.{refl}
-use mathlib.Core.List.{◌∷◌}
-use native.Mathlib.Omega.{arith}
 use Rattle.run_rules.specs.StepsTo.{StepsTo}
 use Rattle.spec_image.specs.Decode.{ref_of}
 use Rattle.state_words.specs.Meaning.{value_is, control_is}
-use Rattle.run_rules.proofs.Steps.{counted}
 use Rattle.run_step.proofs.Sorts.{truth_only}
-use borrow.Author.Rules.{rules}
 use Rattle.run_step.proofs.affirm.Goals as goal
 
 pub unreachable-requires : goal.unreachable-requires

@@ -7,7 +7,6 @@ use Rattle.spec_image.proofs.Operands.{waiting_words}
 use Rattle.run_step.proofs.Levels.{some_walk, look_call, arity_call}
 use Rattle.run_step.proofs.Leaves.{pos}
 use Rattle.run_step.proofs.Opens.{none_done, gather_done}
-use borrow.Author.Rules.{rules}
 use Rattle.run_step.proofs.call.Goals as goal
 
 pub enter_none-requires : goal.enter_none-requires

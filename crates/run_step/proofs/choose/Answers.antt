@@ -1,6 +1,5 @@
 use Rattle.state_words.specs.Meaning.{value_is}
 use Rattle.run_step.proofs.Sorts.{truth_only}
-use borrow.Author.Rules.{rules}
 use Rattle.run_step.proofs.choose.Goals as goal
 
 pub unreachable-requires : goal.unreachable-requires

@@ -2,7 +2,6 @@ use Rattle.run_step.proofs.Leaves.{pos}
 use Rattle.state_words.specs.Meaning.{value_is}
 use Rattle.run_step.proofs.Sorts.{int_only}
 use Rattle.run_step.proofs.Leaves.{depart_main, depart_caller}
-use borrow.Author.Rules.{rules}
 use Rattle.run_step.proofs.depart.Goals as goal
 
 pub unreachable-requires : goal.unreachable-requires

@@ -10,7 +10,6 @@ use Rattle.run_rules.proofs.Steps.{counted_under}
 use Rattle.run_step.proofs.Views.{is_operator, is_call, is_and, is_wait, is_store, is_branch, is_leave, is_assert, is_discard}
 use Rattle.run_step.proofs.GiveNeeds.{over, limited, framed, bounded, few, under, operate_ready, operand_ready, enter_ready, and_ready, store_ready, leave_main_ready, leave_ready, branch_ready, part_inside}
 use Rattle.run_step.proofs.GiveResult.{give_operator, give_next, give_call, give_and, give_store, give_branch, give_leave, give_assert, give_discard}
-use borrow.Author.Rules.{rules}
 use Rattle.run_step.proofs.give.Goals as goal
 
 -- no value is given to a statement that waits

@@ -7,7 +7,6 @@ use Prim.Native.Nat.{ℕ, ◌-◌}
 use Rattle.state_words.specs.Meaning.{frame_at}
 use Rattle.spec_image.proofs.Operands.{read_node}
 use Rattle.run_rules.proofs.Steps.{counted_under}
-use borrow.Author.Rules.{rules}
 use Rattle.run_step.proofs.next_operand.Goals as goal
 
 pub reach-requires : goal.reach-requires

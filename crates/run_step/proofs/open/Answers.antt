@@ -11,7 +11,6 @@ use Rattle.run_rules.proofs.Entries.{on_is}
 use Rattle.run_step.proofs.Levels.{some_walk, look_operator, arity_operator, arity_and}
 use Rattle.run_step.proofs.Facts.{variables_few, reads_variable, call_params}
 use Rattle.run_step.proofs.Opens.{none_evaluated, variable_done, gather_done, and_done}
-use borrow.Author.Rules.{rules}
 use Rattle.run_step.proofs.open.Goals as goal
 
 pub variable-v-requires : goal.variable-v-requires

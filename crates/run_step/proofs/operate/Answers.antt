@@ -5,9 +5,8 @@ use Prim.Native.Nat.{◌-◌}
 use Rattle.spec_machine.specs.Values.{result}
 use Rattle.state_words.specs.Meaning.{slot_at, value_is, control_is}
 use Rattle.run_rules.specs.StepsTo.{StepsTo}
-use Rattle.run_rules.proofs.Steps.{counted, counted_under}
+use Rattle.run_rules.proofs.Steps.{counted_under}
 use Rattle.run_step.proofs.Sorts.{int_only, int_words}
-use borrow.Author.Rules.{rules}
 use Rattle.run_step.proofs.operate.Goals as goal
 
 pub unreachable-requires : goal.unreachable-requires

@@ -3,7 +3,6 @@ use Rattle.state_words.specs.Meaning.{slot_at}
 use Rattle.spec_image.proofs.Operands.{next_operand}
 use lib.ListN.{length-set}
 use native.Mathlib.Omega.{arith}
-use borrow.Author.Rules.{rules}
 use Rattle.state_stack.proofs.gain.Goals as goal
 
 pub bounds-m-at-2 : goal.bounds-m-at-2

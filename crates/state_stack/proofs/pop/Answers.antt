@@ -1,7 +1,6 @@
 use mathlib.Core.Path.{refl, ◌∙◌}
 use Rattle.state_words.specs.Meaning.{frame_at}
 use Rattle.spec_image.proofs.Frames.{pop_frame}
-use borrow.Author.Rules.{rules}
 use Rattle.state_stack.proofs.pop.Goals as goal
 
 pub returns : goal.returns

@@ -2,7 +2,6 @@ use mathlib.Core.Path.{refl, ◌∙◌}
 use native.Mathlib.Omega.{arith}
 use Rattle.state_words.specs.Meaning.{frame_at}
 use Rattle.spec_image.proofs.Frames.{push_frame}
-use borrow.Author.Rules.{rules}
 use Rattle.state_stack.proofs.push.Goals as goal
 
 pub returns : goal.returns

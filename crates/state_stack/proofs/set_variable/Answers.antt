@@ -1,7 +1,6 @@
 use mathlib.Core.Path.{refl, ◌∙◌}
 use Rattle.state_words.specs.Meaning.{variable_at}
 use Rattle.spec_image.proofs.Variables.{store_variable}
-use borrow.Author.Rules.{rules}
 use Rattle.state_stack.proofs.set_variable.Goals as goal
 
 pub returns : goal.returns

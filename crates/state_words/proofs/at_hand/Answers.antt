@@ -1,5 +1,4 @@
 use Rattle.state_words.specs.Meaning.{value_is, control_is}
-use borrow.Author.Rules.{rules}
 use Rattle.state_words.proofs.at_hand.Goals as goal
 
 pub returns-in-Nothing : goal.returns-in-Nothing

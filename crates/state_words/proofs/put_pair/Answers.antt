@@ -1,6 +1,5 @@
 use native.Mathlib.Omega.{arith}
 use lib.ListN.{length-set}
-use borrow.Author.Rules.{rules}
 use Rattle.state_words.proofs.put_pair.Goals as goal
 
 pub bounds-m-at-2 : goal.bounds-m-at-2

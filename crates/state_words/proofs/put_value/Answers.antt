@@ -1,6 +1,5 @@
 use Rattle.spec_image.specs.Layout.{value_words}
 use Rattle.state_words.specs.Meaning.{value_is}
-use borrow.Author.Rules.{rules}
 use Rattle.state_words.proofs.put_value.Goals as goal
 
 pub returns-in-Nothing : goal.returns-in-Nothing

@@ -2,7 +2,6 @@ use Rattle.spec_image.specs.Decode.{ref_of}
 use native.Mathlib.Omega.{arith}
 use Rattle.state_words.proofs.Refs.{ref_node, ref_if, ref_seq}
 use Rattle.state_words.specs.Meaning.{ref_is}
-use borrow.Author.Rules.{rules}
 use Rattle.state_words.proofs.ref_of.Goals as goal
 
 pub returns-then-word-eq0 : goal.returns-then-word-eq0

@@ -1,10 +1,8 @@
 use lib.Dec.{lit≤}
 use mathlib.Core.Logic.{inr}
 use native.Mathlib.Omega.{arith}
-use borrow.Author.Rules.{rules}
 use Rattle.check_summary.proofs.Rooms.{parts_within}
 use Rattle.check_file.proofs.Rounds.{fewer_passed}
-use Prim.Native.Nat.{ℕ, ◌<◌}
 use Rattle.check_file.proofs.sizes.+long_floor.Goals as goal
 
 pub parts_floor-own-requires : goal.parts_floor-own-requires

@@ -1,6 +1,5 @@
 use mathlib.Core.Path.{refl, sym}
 use mathlib.Core.Logic.{inl, inr}
-use borrow.Author.Rules.{rules}
 use Rattle.check_file.proofs.sizes.either.Goals as goal
 
 pub returns-in-Accepted : goal.returns-in-Accepted

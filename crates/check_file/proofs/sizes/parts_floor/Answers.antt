@@ -1,9 +1,7 @@
-use Rattle.check_file.proofs.Passing.{Cleared, cleared_none, cleared_next, cleared_all, part_room, part_within, part_asks}
+use Rattle.check_file.proofs.Passing.{cleared_none, cleared_next, cleared_all, part_room, part_within, part_asks}
 use Rattle.records.proofs.PartWalks.{start_first, start_next}
-use Rattle.records.specs.Parts.{start_of}
-use mathlib.Core.Path.{◌≡◌, refl, ◌∙◌}
-use lib.ListN.{length}
-use Prim.Native.Nat.{◌-◌, ◌≤◌}
+use mathlib.Core.Path.{refl, ◌∙◌}
+use Prim.Native.Nat.{◌-◌}
 use Rattle.check_file.proofs.Rounds.{none_passed}
 use borrow.Author.Rules.{rules}
 use native.Mathlib.Omega.{arith}

@@ -1,12 +1,8 @@
-use Rattle.check_file.proofs.Passing.{Cleared, cleared_none, cleared_next, cleared_all, part_room, part_within, part_asks}
-use Rattle.records.proofs.PartWalks.{start_first, start_next}
+use Rattle.check_file.proofs.Passing.{Cleared}
 use Rattle.records.specs.Parts.{start_of}
-use mathlib.Core.Path.{◌≡◌, refl, ◌∙◌}
+use mathlib.Core.Path.{◌≡◌}
 use lib.ListN.{length}
 use Prim.Native.Nat.{◌-◌, ◌≤◌}
-use Rattle.check_file.proofs.Rounds.{none_passed}
-use borrow.Author.Rules.{rules}
-use native.Mathlib.Omega.{arith}
 use Rattle.check_file.proofs.sizes.parts_floor.Given as goal
 
 abbrev pub invariant-loop-f : goal.invariant-loop-f

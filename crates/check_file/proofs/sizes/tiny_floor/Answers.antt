@@ -1,7 +1,6 @@
 use Rattle.check_summary.proofs.Rooms.{parts_within}
 use native.Mathlib.Omega.{arith}
 use mathlib.Core.Logic.{inl}
-use borrow.Author.Rules.{rules}
 use Rattle.check_file.proofs.sizes.tiny_floor.Goals as goal
 
 pub parts_floor-requires : goal.parts_floor-requires

@@ -4,7 +4,6 @@ use Rattle.spec_language.specs.Scopes.{uses_variable}
 use Rattle.spec_language.specs.Known.{names_variable}
 use mathlib.Core.Path.{refl, ◌∙◌}
 use Rattle.check_pass.proofs.Judging.{assign_judged}
-use borrow.Author.Rules.{rules}
 use Rattle.check_pass.proofs.nodes.assign_at.Goals as goal
 
 pub var_type-want-requires : goal.var_type-want-requires

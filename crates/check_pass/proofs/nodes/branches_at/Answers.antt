@@ -1,6 +1,5 @@
 use native.Mathlib.Omega.{arith}
 use Rattle.check_pass.proofs.Judging.{branches_judged}
-use borrow.Author.Rules.{rules}
 use Rattle.check_pass.proofs.nodes.branches_at.Goals as goal
 
 pub reads_of-requires : goal.reads_of-requires

@@ -1,4 +1,3 @@
-use borrow.Author.Rules.{rules}
 use Rattle.check_pass.proofs.nodes.effect_of.Goals as goal
 
 pub returns : goal.returns

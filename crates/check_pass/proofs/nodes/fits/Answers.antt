@@ -1,5 +1,4 @@
 use Rattle.check_pass.proofs.Kids.{fits-is}
-use borrow.Author.Rules.{rules}
 use Rattle.check_pass.proofs.nodes.fits.Goals as goal
 
 pub returns : goal.returns

@@ -1,5 +1,4 @@
 use native.Mathlib.Omega.{arith}
-use borrow.Author.Rules.{rules}
 use Rattle.check_pass.proofs.nodes.guard.Goals as goal
 
 pub returns-else-passes : goal.returns-else-passes

@@ -1,6 +1,5 @@
 use native.Mathlib.Omega.{arith}
 use Rattle.check_pass.proofs.Judging.{loop_judged}
-use borrow.Author.Rules.{rules}
 use Rattle.check_pass.proofs.nodes.loop_at.Goals as goal
 
 pub bounds-codes-a : goal.bounds-codes-a

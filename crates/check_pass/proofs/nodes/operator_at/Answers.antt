@@ -1,6 +1,5 @@
 use mathlib.Core.Path.{◌∙◌}
 use Rattle.check_pass.proofs.Judging.{operator_judged}
-use borrow.Author.Rules.{rules}
 use Rattle.check_pass.proofs.nodes.operator_at.Goals as goal
 
 pub returns : goal.returns

@@ -2,7 +2,6 @@ use Rattle.spec_language.specs.Scopes.{uses_variable}
 use Rattle.spec_language.specs.Known.{names_variable}
 use mathlib.Core.Path.{refl}
 use Rattle.check_pass.proofs.Judging.{scope_judged}
-use borrow.Author.Rules.{rules}
 use Rattle.check_pass.proofs.nodes.scope_at.Goals as goal
 
 pub in_scope-e-requires : goal.in_scope-e-requires

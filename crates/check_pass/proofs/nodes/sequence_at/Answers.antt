@@ -1,5 +1,4 @@
 use Rattle.check_pass.proofs.Judging.{sequence_judged}
-use borrow.Author.Rules.{rules}
 use Rattle.check_pass.proofs.nodes.sequence_at.Goals as goal
 
 pub returns : goal.returns

@@ -5,7 +5,6 @@ use Rattle.spec_language.specs.Known.{names_variable}
 use Rattle.check_types.proofs.TypeTables.{laid_at}
 use Rattle.check_effects.proofs.Covering.{inserted}
 use Rattle.check_pass.proofs.Judging.{variable_judged}
-use borrow.Author.Rules.{rules}
 use Rattle.check_pass.proofs.nodes.variable_at.Goals as goal
 
 pub var_type-found-requires : goal.var_type-found-requires

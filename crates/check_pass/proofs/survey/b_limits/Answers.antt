@@ -1,5 +1,4 @@
 use Rattle.check_pass.specs.Limits.{b_limits}
-use borrow.Author.Rules.{rules}
 use Rattle.check_pass.proofs.survey.b_limits.Goals as goal
 
 pub returns : goal.returns

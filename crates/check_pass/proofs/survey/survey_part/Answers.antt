@@ -1,15 +1,12 @@
 use mathlib.Core.Bool.{not}
-use mathlib.Core.Logic.{⊎_elim}
 use mathlib.Core.Path.{sym, ap, ◌∙◌}
-use Prim.Native.Nat.{◌-◌, ◌≤◌}
+use Prim.Native.Nat.{◌-◌}
 use native.Mathlib.Nat.{le_antisymm}
 use native.Mathlib.Omega.{arith}
 use borrow.Author.Count.{below_none, below_more}
 use borrow.Author.Tests.{not-false}
 use borrow.Author.Rules.{rules}
-use Rattle.records.proofs.Loops.{Below}
 use Rattle.spec_language.specs.Nodes.{node_ok}
-use Rattle.check_scopes.specs.Counts.{Counts, Noted}
 use Rattle.check_scopes.proofs.Decls.{counts_none, counts_other, noted_other}
 use Rattle.check_pass.proofs.Surveying.{decl_narrow, surveyed}
 use Rattle.check_pass.proofs.survey.survey_part.Goals.{then-not-within_limits+else-not-node_ok, else-not-within_limits}
@@ -38,9 +35,9 @@ note_decl-requires c = record { inside = omega (arith, c.requires.inside, c.loop
 
 pub loop-i-preserved : goal.loop-i-preserved
 loop-i-preserved c =
-    elim c.if-not-within_limits.branch
-    [ then-not-within_limits+else-not-node_ok w ↦ (search rules, below_more _ _ c.loop-i.invariant.1 (sym (ap not w.node_ok.ensures) ∙ w.if-not-node_ok.false-raw), rw w.d-is w.count_decl-d.ensures, rw w.table-is w.note_decl.ensures)
-    | else-not-within_limits w ↦ (search rules, below_more _ _ c.loop-i.invariant.1 (ap not (c.within_limits.ensures (not-false _ w.if-not-within_limits.false-raw)).0), rw w.d-is (counts_other _ _ _ c.loop-i.invariant.2 (c.within_limits.ensures (not-false _ w.if-not-within_limits.false-raw)).1), rw w.table-is (noted_other _ c.loop-i.table _ c.loop-i.invariant.3 (c.within_limits.ensures (not-false _ w.if-not-within_limits.false-raw)).1))
+    elim c.if-not-within_limits.branch [
+      | then-not-within_limits+else-not-node_ok w ↦ (search rules, below_more _ _ c.loop-i.invariant.1 (sym (ap not w.node_ok.ensures) ∙ w.if-not-node_ok.false-raw), rw w.d-is w.count_decl-d.ensures, rw w.table-is w.note_decl.ensures)
+      | else-not-within_limits w ↦ (search rules, below_more _ _ c.loop-i.invariant.1 (ap not (c.within_limits.ensures (not-false _ w.if-not-within_limits.false-raw)).0), rw w.d-is (counts_other _ _ _ c.loop-i.invariant.2 (c.within_limits.ensures (not-false _ w.if-not-within_limits.false-raw)).1), rw w.table-is (noted_other _ c.loop-i.table _ c.loop-i.invariant.3 (c.within_limits.ensures (not-false _ w.if-not-within_limits.false-raw)).1))
     ]
 
 pub lowest_undeclared-requires : goal.lowest_undeclared-requires

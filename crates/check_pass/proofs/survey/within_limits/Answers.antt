@@ -1,7 +1,6 @@
 use mathlib.Core.Bool.{false≢true}
 use mathlib.Core.Path.{◌∙◌}
 use Rattle.check_pass.proofs.Limits.{within}
-use borrow.Author.Rules.{rules}
 use Rattle.check_pass.proofs.survey.within_limits.Goals as goal
 
 pub returns-then-kind-lt-KINDS : goal.returns-then-kind-lt-KINDS

@@ -1,6 +1,5 @@
 use mathlib.Core.Path.{refl, ◌∙◌}
 use Rattle.check_summary.proofs.SummaryParts.{branches_summary}
-use borrow.Author.Rules.{rules}
 use Rattle.check_summary.proofs.rows.in_branches.Goals as goal
 
 pub returns : goal.returns

@@ -1,6 +1,5 @@
 use mathlib.Core.Path.{refl}
 use Rattle.check_summary.proofs.SummaryParts.{loop_summary}
-use borrow.Author.Rules.{rules}
 use Rattle.check_summary.proofs.rows.in_loop.Goals as goal
 
 pub returns : goal.returns

@@ -1,6 +1,5 @@
 use mathlib.Core.Path.{refl, sym, ◌∙◌}
 use Rattle.check_summary.proofs.SummaryParts.{sequence_summary}
-use borrow.Author.Rules.{rules}
 use Rattle.check_summary.proofs.rows.in_sequence.Goals as goal
 
 pub returns : goal.returns

@@ -1,6 +1,5 @@
 use Rattle.spec_language.specs.Flow.{declares, leaves}
 use mathlib.Core.Path.{◌∙◌}
-use borrow.Author.Rules.{rules}
 use Rattle.desk_ways.proofs.flow.in_sequence.Goals as goal
 
 pub returns : goal.returns

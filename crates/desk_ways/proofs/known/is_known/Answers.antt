@@ -1,4 +1,3 @@
-use borrow.Author.Rules.{rules}
 use Rattle.desk_ways.specs.KnownNode.{known_node}
 use Rattle.desk_ways.proofs.known.is_known.Goals as goal
 

@@ -1,6 +1,5 @@
 use mathlib.Core.Path.{refl}
 use Rattle.state_words.specs.Meaning.{control_is}
-use borrow.Author.Rules.{rules}
 use Rattle.fit_frames.proofs.descent.begin.Goals as goal
 
 pub returns-in-Nothing : goal.returns-in-Nothing

@@ -1,7 +1,6 @@
 use mathlib.Core.Path.{sym, ◌∙◌}
 use borrow.Author.Tests.{not-true, not-false}
 use Rattle.fit_frames.proofs.Controls.{eval_not, eval_const, eval_law}
-use borrow.Author.Rules.{rules}
 use Rattle.fit_frames.proofs.descent.begin_expression.Goals as goal
 
 pub returns-then-not-is_expression : goal.returns-then-not-is_expression

@@ -1,7 +1,6 @@
 use mathlib.Core.Path.{sym, ◌∙◌}
 use borrow.Author.Tests.{not-true, not-false}
 use Rattle.fit_frames.proofs.Controls.{exec_not, exec_law}
-use borrow.Author.Rules.{rules}
 use Rattle.fit_frames.proofs.descent.begin_statement.Goals as goal
 
 pub returns-then-not-is_statement : goal.returns-then-not-is_statement

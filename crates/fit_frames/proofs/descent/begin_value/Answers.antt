@@ -1,5 +1,4 @@
 use mathlib.Core.Path.{refl, ◌∙◌}
-use borrow.Author.Rules.{rules}
 use Rattle.fit_frames.proofs.descent.begin_value.Goals as goal
 
 pub returns : goal.returns

@@ -1,14 +1,10 @@
-use mathlib.Core.Path.{◌≡◌, refl, sym, ◌∙◌}
+use mathlib.Core.Path.{◌≡◌}
 use Prim.Native.Nat.{◌+◌, ◌*◌, ◌≤◌}
-use native.Mathlib.Omega.{arith}
-use borrow.Author.Tests.{not-true, not-false}
 use Rattle.words.specs.Stacks.{entries, chain}
 use Rattle.spec_machine.specs.File.{program_of}
 use Rattle.spec_image.specs.Decode.{frame_of}
 use Rattle.fit_frames.specs.Incoming.{frame_fits, hands_on, ends}
 use Rattle.fit_frames.specs.Meaning.{incoming_is}
-use Rattle.fit_frames.proofs.Chains.{chain_less, chain_more, chain_end}
-use borrow.Author.Rules.{rules}
 use Rattle.fit_frames.proofs.descent.frames_fit.Given as goal
 
 abbrev pub invariant-loop-i : goal.invariant-loop-i

@@ -6,7 +6,6 @@ use Rattle.spec_machine.specs.File.{program_of}
 use Rattle.spec_language.specs.Types.{mask_type}
 use Rattle.fit_frames.specs.Slots.{slots_in}
 use Rattle.fit_frames.proofs.Counts.{gather_count, gather_values, gather_middle, gather_nodes}
-use borrow.Author.Rules.{rules}
 use Rattle.fit_frames.proofs.operands.gathers.Goals as goal
 
 pub returns-then-y-gt7 : goal.returns-then-y-gt7

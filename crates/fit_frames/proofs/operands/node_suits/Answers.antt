@@ -1,6 +1,5 @@
 use mathlib.Core.Path.{sym, ◌∙◌}
 use borrow.Author.Tests.{not-true, not-false, eq-eqb, ne_eqb}
-use borrow.Author.Rules.{rules}
 use Rattle.fit_frames.proofs.operands.node_suits.Goals as goal
 
 pub returns-then-not-is_expression : goal.returns-then-not-is_expression

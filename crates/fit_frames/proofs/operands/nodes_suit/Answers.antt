@@ -1,13 +1,9 @@
-use mathlib.Core.Path.{◌≡◌, refl, sym, ◌∙◌}
-use Prim.Native.Nat.{◌+◌, ◌*◌, ◌-◌, ◌≤◌}
-use lib.ListN.{drop}
+use mathlib.Core.Path.{refl, sym, ◌∙◌}
+use Prim.Native.Nat.{◌-◌}
 use borrow.Author.Tests.{not-true, not-false}
 use Rattle.varset.specs.Sets.{has}
 use Rattle.spec_machine.specs.File.{program_of}
-use Rattle.spec_image.specs.Decode.{nodes_of}
 use Rattle.spec_language.specs.Types.{mask_type}
-use Rattle.fit_frames.specs.Operands.{nodes_suit}
-use Rattle.fit_frames.specs.Slots.{slots_in}
 use Rattle.fit_frames.proofs.FrameSlots.{nodes_more, nodes_less, nodes_end}
 use borrow.Author.Rules.{rules}
 use Rattle.fit_frames.proofs.operands.nodes_suit.Goals as goal

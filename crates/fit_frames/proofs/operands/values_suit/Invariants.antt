@@ -1,12 +1,10 @@
-use lib.ListN.{get_or, drop}
-use mathlib.Core.Path.{◌≡◌, sym, ◌∙◌}
+use lib.ListN.{drop}
+use mathlib.Core.Path.{◌≡◌}
 use Prim.Native.Nat.{◌*◌, ◌-◌, ◌≤◌}
 use Rattle.spec_image.specs.Decode.{values_of}
 use Rattle.spec_language.specs.Types.{mask_type}
 use Rattle.fit_frames.specs.Operands.{values_suit}
 use Rattle.fit_frames.specs.Slots.{slots_in}
-use Rattle.fit_frames.proofs.FrameSlots.{values_more, values_less, values_end, values_all}
-use borrow.Author.Rules.{rules}
 use Rattle.fit_frames.proofs.operands.values_suit.Given as goal
 
 abbrev pub invariant-loop-k : goal.invariant-loop-k

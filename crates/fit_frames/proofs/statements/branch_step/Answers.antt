@@ -1,7 +1,6 @@
 use mathlib.Core.Path.{sym, ◌∙◌}
 use borrow.Author.Tests.{not-true, not-false}
 use Rattle.fit_frames.proofs.Steps.{branch_none, branch_kind, branch_first, branch_second}
-use borrow.Author.Rules.{rules}
 use Rattle.fit_frames.proofs.statements.branch_step.Goals as goal
 
 pub returns-then-not-d : goal.returns-then-not-d

@@ -1,6 +1,5 @@
 use mathlib.Core.Path.{◌∙◌}
 use Rattle.fit_frames.proofs.Steps.{branch_law}
-use borrow.Author.Rules.{rules}
 use Rattle.fit_frames.proofs.statements.branches.Goals as goal
 
 pub returns : goal.returns

@@ -1,7 +1,6 @@
 use mathlib.Core.Path.{◌∙◌}
 use Rattle.spec_machine.specs.File.{program_of, fun_of}
 use Rattle.fit_frames.proofs.Steps.{leave_law}
-use borrow.Author.Rules.{rules}
 use Rattle.fit_frames.proofs.statements.leave_step.Goals as goal
 
 pub returns : goal.returns

@@ -3,7 +3,6 @@ use native.Mathlib.Omega.{arith}
 use borrow.Author.Tests.{not-true, not-false, lt-ltb, le-ltb}
 use Rattle.fit_frames.proofs.Steps.{store_none, store_unknown, store_law}
 use Rattle.fit_frames.proofs.Files.{laid, record_in_lem, has_var_lem}
-use borrow.Author.Rules.{rules}
 use Rattle.fit_frames.proofs.statements.store_step.Goals as goal
 
 pub returns-then-not-d : goal.returns-then-not-d

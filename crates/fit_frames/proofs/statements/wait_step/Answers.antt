@@ -1,7 +1,6 @@
 use mathlib.Core.Path.{sym, ◌∙◌}
 use borrow.Author.Tests.{not-true, not-false}
 use Rattle.fit_frames.proofs.Steps.{wait_some, wait_not, wait_law}
-use borrow.Author.Rules.{rules}
 use Rattle.fit_frames.proofs.statements.wait_step.Goals as goal
 
 pub returns-then-d : goal.returns-then-d

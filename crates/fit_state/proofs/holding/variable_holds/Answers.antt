@@ -2,7 +2,6 @@ use mathlib.Core.Path.{sym}
 use Rattle.fit_state.proofs.Values.{nothing_holds, some_holds}
 use Rattle.spec_machine.specs.Program.{type_of_var}
 use Rattle.spec_machine.specs.File.{program_of}
-use borrow.Author.Rules.{rules}
 use Rattle.fit_state.proofs.holding.variable_holds.Goals as goal
 
 pub returns-then-tag-eq0 : goal.returns-then-tag-eq0

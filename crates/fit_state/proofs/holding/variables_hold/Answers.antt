@@ -1,6 +1,6 @@
-use mathlib.Core.Path.{◌≡◌, sym, ◌∙◌}
+use mathlib.Core.Path.{sym, ◌∙◌}
 use mathlib.Core.Bool.{false≢true}
-use Prim.Native.Nat.{◌*◌, ◌-◌, ◌≤◌}
+use Prim.Native.Nat.{◌*◌, ◌-◌}
 use native.Mathlib.Omega.{arith}
 use lib.ListN.{get_or, drop}
 use borrow.Author.Tests.{not-true, not-false}
@@ -9,11 +9,10 @@ use Rattle.records.specs.Fields.{count_of}
 use Rattle.records.specs.Parts.{part_of}
 use Rattle.words.specs.Stacks.{block_at}
 use Rattle.spec_language.specs.Types as types
-use Rattle.spec_machine.specs.Program.{type_of_var, var_types}
+use Rattle.spec_machine.specs.Program.{type_of_var}
 use Rattle.spec_machine.specs.File.{program_of}
-use Rattle.spec_machine.specs.Test.{all_hold_typed}
 use Rattle.fit_state.specs.Meaning.{variables_in}
-use Rattle.fit_state.proofs.Values.{holds_from, holds_more, holds_less, holds_end, holds_all, type_in_lem, Below, below_none, below_more, below_all}
+use Rattle.fit_state.proofs.Values.{holds_more, holds_less, holds_end, holds_all, type_in_lem, below_none, below_more, below_all}
 use borrow.Author.Rules.{rules}
 use Rattle.fit_state.proofs.holding.variables_hold.Goals as goal
 

@@ -1,6 +1,5 @@
 use mathlib.Core.Path.{◌∙◌}
 use borrow.Author.Tests.{ne_eqb}
-use borrow.Author.Rules.{rules}
 use Rattle.fit_state.proofs.holding.with_value.Goals as goal
 
 pub returns-then-tag-eq0 : goal.returns-then-tag-eq0

@@ -1,10 +1,8 @@
 use mathlib.Core.Logic.{inl}
 use native.Mathlib.Omega.{arith}
-use borrow.Author.Rules.{rules}
 use Rattle.check_summary.proofs.Rooms.{table_room}
 use Rattle.fit_frames.proofs.Files.{laid}
 use Rattle.fit_state.proofs.Filling.{same_answer}
-use Prim.Native.Nat.{ℕ, ◌<◌}
 use Rattle.fit_state.proofs.tables.+short_fits.Goals as goal
 
 pub running_fits-fit-requires : goal.running_fits-fit-requires

@@ -1,7 +1,6 @@
 use Rattle.fit_frames.proofs.Files.{laid}
 use Rattle.check_summary.proofs.Rooms.{table_room}
 use mathlib.Core.Logic.{inl}
-use borrow.Author.Rules.{rules}
 use Rattle.fit_state.proofs.tables.tiny_fits.Goals as goal
 
 pub running_fits-requires : goal.running_fits-requires

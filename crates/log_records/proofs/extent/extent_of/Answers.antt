@@ -1,7 +1,6 @@
 use mathlib.Core.Path.{refl}
 use native.Mathlib.Omega.{arith}
 use Rattle.log_records.proofs.Extents.{few_there, extent_is}
-use borrow.Author.Rules.{rules}
 use Rattle.log_records.proofs.extent.extent_of.Goals as goal
 
 pub overflow_cast-n : goal.overflow_cast-n

@@ -1,5 +1,4 @@
 use Rattle.log_records.proofs.Extents.{joined_alike}
-use borrow.Author.Rules.{rules}
 use Rattle.log_records.proofs.extent.joined.Goals as goal
 
 pub returns : goal.returns

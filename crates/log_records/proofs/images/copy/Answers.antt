@@ -1,8 +1,7 @@
-use mathlib.Core.Path.{◌≡◌, refl, ◌∙◌}
-use Prim.Native.Nat.{◌≤◌, ◌-◌}
-use lib.ListN.{length}
+use mathlib.Core.Path.{refl, ◌∙◌}
+use Prim.Native.Nat.{◌-◌}
 use borrow.Author.Rules.{rules}
-use Rattle.log_records.proofs.Puts.{mixed, mixed_all, copy_one}
+use Rattle.log_records.proofs.Puts.{mixed_all, copy_one}
 use Rattle.log_records.proofs.images.copy.Goals as goal
 
 pub loop-i-init : goal.loop-i-init

@@ -1,8 +1,7 @@
-use mathlib.Core.Path.{◌≡◌, refl, ◌∙◌}
+use mathlib.Core.Path.{◌≡◌}
 use Prim.Native.Nat.{◌≤◌, ◌-◌}
 use lib.ListN.{length}
-use borrow.Author.Rules.{rules}
-use Rattle.log_records.proofs.Puts.{mixed, mixed_all, copy_one}
+use Rattle.log_records.proofs.Puts.{mixed}
 use Rattle.log_records.proofs.images.copy.Given as goal
 
 abbrev pub invariant-loop-i : goal.invariant-loop-i

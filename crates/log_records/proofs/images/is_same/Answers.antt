@@ -2,7 +2,6 @@ use mathlib.Core.Path.{sym, ap, ◌∙◌}
 use Prim.Native.Nat.{ℕ}
 use lib.Dec.{eqb}
 use Rattle.log_records.proofs.Counts.{same_count}
-use borrow.Author.Rules.{rules}
 use Rattle.log_records.proofs.images.is_same.Goals as goal
 
 pub returns : goal.returns

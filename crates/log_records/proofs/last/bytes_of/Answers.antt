@@ -1,4 +1,3 @@
-use borrow.Author.Rules.{rules}
 use Rattle.log_records.proofs.LastRecords.{bytes_whole, bytes_few}
 use Rattle.log_records.proofs.last.bytes_of.Goals as goal
 

@@ -1,7 +1,5 @@
-use mathlib.Core.Path.{◌≡◌, sym, ◌∙◌}
-use mathlib.Core.Logic.{⊎_elim}
-use Prim.Native.Nat.{◌+◌, ◌*◌, ◌-◌, ◌≤◌}
-use lib.ListN.{length}
+use mathlib.Core.Path.{sym, ◌∙◌}
+use Prim.Native.Nat.{◌+◌, ◌*◌, ◌-◌}
 use borrow.Author.Rules.{rules}
 use Rattle.spec_log.specs.Changes.{restored}
 use Rattle.spec_log.specs.Records.{changes_at}
@@ -14,9 +12,9 @@ loop-i-init c = (search rules, search rules, from_start (λ k n. restored (chang
 
 pub loop-i-preserved : goal.loop-i-preserved
 loop-i-preserved c = let l = c.loop-i in
-    elim c.if-place-words.branch
-    [ then-place-words w ↦ change_put _ l.m c.if-place-words.m _ _ _ _ _ _ c.loop-i-test.true l.invariant.1 l.invariant.2 c.u16_at-place.ensures.0 w.u32_at.result w.u32_at.ensures w.m-is
-    | else-place-words w ↦ change_past _ l.m c.if-place-words.m _ _ _ _ _ _ c.loop-i-test.true l.invariant.1 l.invariant.2 c.u16_at-place.ensures.0 w.if-place-words.false w.m-is
+    elim c.if-place-words.branch [
+      | then-place-words w ↦ change_put _ l.m c.if-place-words.m _ _ _ _ _ _ c.loop-i-test.true l.invariant.1 l.invariant.2 c.u16_at-place.ensures.0 w.u32_at.result w.u32_at.ensures w.m-is
+      | else-place-words w ↦ change_past _ l.m c.if-place-words.m _ _ _ _ _ _ c.loop-i-test.true l.invariant.1 l.invariant.2 c.u16_at-place.ensures.0 w.if-place-words.false w.m-is
     ]
 
 pub returns : goal.returns

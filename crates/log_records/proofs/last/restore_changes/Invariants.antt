@@ -1,11 +1,8 @@
-use mathlib.Core.Path.{◌≡◌, sym, ◌∙◌}
-use mathlib.Core.Logic.{⊎_elim}
+use mathlib.Core.Path.{◌≡◌}
 use Prim.Native.Nat.{◌+◌, ◌*◌, ◌-◌, ◌≤◌}
 use lib.ListN.{length}
-use borrow.Author.Rules.{rules}
 use Rattle.spec_log.specs.Changes.{restored}
 use Rattle.spec_log.specs.Records.{changes_at}
-use Rattle.log_records.proofs.LastRecords.{from_start, change_put, change_past, changes_done}
 use Rattle.log_records.proofs.last.restore_changes.Given as goal
 
 abbrev pub invariant-loop-i : goal.invariant-loop-i

@@ -1,10 +1,8 @@
-use mathlib.Core.Path.{◌≡◌, sym, ◌∙◌}
+use mathlib.Core.Path.{◌≡◌}
 use mathlib.Core.List.{◌++◌}
 use Prim.Native.Nat.{◌+◌, ◌*◌, ◌-◌, ◌≤◌}
 use lib.ListN.{length, take}
-use borrow.Author.Rules.{rules}
 use Rattle.spec_log.specs.Records.{words_at}
-use Rattle.log_records.proofs.LastRecords.{from_start, word_put, words_done}
 use Rattle.log_records.proofs.last.restore_words.Given as goal
 
 abbrev pub invariant-loop-i : goal.invariant-loop-i

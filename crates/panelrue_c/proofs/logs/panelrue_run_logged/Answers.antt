@@ -1,6 +1,5 @@
 use mathlib.Core.Path.{sym, ◌∙◌}
 use Rattle.panelrue_c.specs.HostLogs.{log_number, log_words}
-use borrow.Author.Rules.{rules}
 use Rattle.panelrue_c.proofs.logs.panelrue_run_logged.Goals as goal
 
 pub pack-requires : goal.pack-requires

@@ -1,5 +1,4 @@
 use Rattle.panelrue_c.specs.HostLogs.{stop_number}
-use borrow.Author.Rules.{rules}
 use Rattle.panelrue_c.proofs.logs.stop_number.Goals as goal
 
 pub returns-in-Ended : goal.returns-in-Ended

@@ -1,6 +1,5 @@
 use borrow.Author.Tests.{le-leb, lt-leb}
 use Rattle.panelrue_c.specs.HostLogs.{back_words}
-use borrow.Author.Rules.{rules}
 use Rattle.panelrue_c.proofs.logs.tell_back.Goals as goal
 
 pub returns-then-answer-lt1 : goal.returns-then-answer-lt1

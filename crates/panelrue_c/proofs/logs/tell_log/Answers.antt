@@ -2,7 +2,6 @@ use native.Mathlib.Omega.{arith}
 use lib.ListN.{length-set}
 use borrow.Author.Tests.{le-leb, lt-leb}
 use Rattle.panelrue_c.specs.HostLogs.{log_words}
-use borrow.Author.Rules.{rules}
 use Rattle.panelrue_c.proofs.logs.tell_log.Goals as goal
 
 pub returns-then-answer-lt4 : goal.returns-then-answer-lt4

@@ -1,7 +1,6 @@
 use mathlib.Core.Path.{sym, ◌∙◌}
 use native.Mathlib.Omega.{arith}
 use Rattle.words.proofs.Blocks.{zeroed}
-use borrow.Author.Rules.{rules}
 use Rattle.run_rules.proofs.calling.clear.Goals as goal
 
 pub returns : goal.returns

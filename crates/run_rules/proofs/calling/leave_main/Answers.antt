@@ -1,6 +1,5 @@
 use mathlib.Core.Path.{refl}
 use Rattle.run_rules.specs.StepsTo.{StepsTo}
-use borrow.Author.Rules.{rules}
 use Rattle.run_rules.proofs.calling.leave_main.Goals as goal
 
 pub returns : goal.returns

@@ -1,7 +1,6 @@
 use mathlib.Core.Path.{sym, ◌∙◌}
 use Rattle.state_words.specs.Meaning.{control_is, value_is}
 use Rattle.run_rules.proofs.Looks.{look_int, look_bool, look_nothing, reach_other}
-use borrow.Author.Rules.{rules}
 use Rattle.run_rules.proofs.gathering.reach.Goals as goal
 
 pub returns-in-0 : goal.returns-in-0

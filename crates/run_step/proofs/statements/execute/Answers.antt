@@ -1,4 +1,3 @@
-use borrow.Author.Rules.{rules}
 use native.Mathlib.Omega.{arith}
 use Rattle.spec_image.specs.Decode.{ref_of}
 use Rattle.state_words.proofs.Refs.{ref_node, ref_if, ref_seq}

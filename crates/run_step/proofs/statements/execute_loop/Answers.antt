@@ -5,7 +5,6 @@ use Rattle.spec_machine.specs.File.{program_of}
 use Rattle.spec_image.specs.Layout.{ref_word, frame_words, block}
 use Rattle.state_words.specs.Meaning.{control_is}
 use Rattle.run_step.proofs.Loops.{see_if, see_seq}
-use borrow.Author.Rules.{rules}
 use Rattle.run_step.proofs.statements.execute_loop.Goals as goal
 
 pub returns-then-inner : goal.returns-then-inner

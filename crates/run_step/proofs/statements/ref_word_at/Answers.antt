@@ -5,7 +5,6 @@ use Rattle.spec_image.specs.Decode.{ref_of}
 use Rattle.spec_image.proofs.ValueWords.{ref_back}
 use Rattle.spec_machine.specs.Program.{node}
 use Rattle.spec_machine.specs.File.{ref_at}
-use borrow.Author.Rules.{rules}
 use Rattle.run_step.proofs.statements.ref_word_at.Goals as goal
 
 pub returns-then-kind_at-eq6 : goal.returns-then-kind_at-eq6

@@ -4,7 +4,6 @@ use Rattle.spec_machine.specs.Machine.{wait}
 use Rattle.state_words.specs.Meaning.{control_is}
 use Rattle.run_rules.proofs.Steps.{counted_under}
 use Rattle.run_step.proofs.Executions.{waits_word}
-use borrow.Author.Rules.{rules}
 use Rattle.run_step.proofs.statements.resume.Goals as goal
 
 pub returns : goal.returns

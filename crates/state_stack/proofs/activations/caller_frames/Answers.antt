@@ -1,7 +1,6 @@
 use mathlib.Core.Path.{refl, ◌∙◌}
 use Rattle.state_words.specs.Meaning.{activation_at}
 use Rattle.spec_image.proofs.Calls.{caller_count}
-use borrow.Author.Rules.{rules}
 use Rattle.state_stack.proofs.activations.caller_frames.Goals as goal
 
 pub returns : goal.returns

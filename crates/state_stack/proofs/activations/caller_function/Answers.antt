@@ -2,7 +2,6 @@ use mathlib.Core.Path.{◌∙◌}
 use native.Mathlib.Omega.{arith}
 use Rattle.state_words.specs.Meaning.{activation_at}
 use Rattle.spec_image.proofs.Calls.{caller_function}
-use borrow.Author.Rules.{rules}
 use Rattle.state_stack.proofs.activations.caller_function.Goals as goal
 
 pub returns : goal.returns

@@ -3,7 +3,6 @@ use native.Mathlib.Omega.{arith}
 use Prim.Native.Nat.{◌+◌, ◌*◌, ◌/◌}
 use Rattle.state_words.specs.Meaning.{value_is, frame_at, variable_at}
 use Rattle.spec_image.proofs.Calls.{enter_moved}
-use borrow.Author.Rules.{rules}
 use Rattle.state_stack.proofs.activations.enter.Goals as goal
 
 pub returns : goal.returns

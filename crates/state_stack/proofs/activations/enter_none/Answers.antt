@@ -1,6 +1,5 @@
 use mathlib.Core.Path.{refl, ◌∙◌}
 use Rattle.spec_image.proofs.Calls as calls
-use borrow.Author.Rules.{rules}
 use Rattle.state_stack.proofs.activations.enter_none.Goals as goal
 
 pub returns : goal.returns

@@ -3,7 +3,6 @@ use Prim.Native.Nat.{◌+◌, ◌*◌}
 use native.Mathlib.Omega.{arith}
 use Rattle.state_words.specs.Meaning.{frame_at, activation_at}
 use Rattle.spec_image.proofs.Calls as calls
-use borrow.Author.Rules.{rules}
 use Rattle.state_stack.proofs.activations.leave.Goals as goal
 
 pub returns : goal.returns

@@ -2,7 +2,6 @@ use mathlib.Core.Path.{◌≡◌, refl, ◌∙◌}
 use native.Mathlib.Omega.{arith}
 use Prim.Native.Nat.{◌+◌, ◌*◌}
 use Rattle.state_words.specs.Meaning.{activation_at}
-use borrow.Author.Rules.{rules}
 use Rattle.state_stack.proofs.activations.open.Goals as goal
 
 pub returns : goal.returns

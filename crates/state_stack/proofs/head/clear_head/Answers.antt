@@ -3,7 +3,6 @@ use Rattle.state_words.specs.Meaning.{activation_at}
 use Rattle.spec_image.proofs.Heads as heads
 use lib.ListN.{length-set}
 use native.Mathlib.Omega.{arith}
-use borrow.Author.Rules.{rules}
 use Rattle.state_stack.proofs.head.clear_head.Goals as goal
 
 pub bounds-m-1 : goal.bounds-m-1

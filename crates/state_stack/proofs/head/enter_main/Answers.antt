@@ -1,7 +1,6 @@
 use mathlib.Core.Path.{refl, ◌∙◌}
 use Rattle.state_words.specs.Meaning.{activation_at}
 use Rattle.spec_image.proofs.Calls as calls
-use borrow.Author.Rules.{rules}
 use Rattle.state_stack.proofs.head.enter_main.Goals as goal
 
 pub returns : goal.returns

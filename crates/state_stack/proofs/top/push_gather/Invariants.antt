@@ -1,18 +1,14 @@
-use Rattle.spec_image.proofs.Frames.{push_frame}
-use mathlib.Core.Path.{◌≡◌, refl, ◌∙◌}
+use mathlib.Core.Path.{◌≡◌}
 use mathlib.Core.List.{List, [], ◌∷◌, ◌++◌}
 use Prim.Native.Nat.{ℕ, ◌+◌, ◌-◌, ◌≤◌, ◌<◌}
-use lib.ListN.{length, replicate, length-set}
-use native.Mathlib.Omega.{arith}
-use borrow.Author.Rules.{rules}
-use Rattle.state_words.specs.Meaning.{frame_at}
+use lib.ListN.{length, replicate}
 use Rattle.records.specs.Fields.{size_at}
 use Rattle.spec_machine.specs.Values.{Value}
 use Rattle.spec_machine.specs.Program.{Operation}
 use Rattle.spec_machine.specs.Machine.{Frame, gather, Saved}
 use Rattle.spec_image.specs.Image.{saved_frames}
 use Rattle.spec_image.specs.Core.{core}
-use Rattle.state_stack.proofs.Waits.{Stored, stored_none, store_more, store_done}
+use Rattle.state_stack.proofs.Waits.{Stored}
 use Rattle.state_stack.proofs.top.push_gather.Given as goal
 
 abbrev pub invariant-loop-j : goal.invariant-loop-j

@@ -1,7 +1,6 @@
 use mathlib.Core.Path.{◌∙◌}
 use Rattle.state_stack.specs.Shows.{Shows}
 use Rattle.state_stack.proofs.Views.{seen, said, is_operator, is_call, last_view}
-use borrow.Author.Rules.{rules}
 use Rattle.state_stack.proofs.top.top_frame.Goals as goal
 
 pub returns-in-1 : goal.returns-in-1

@@ -4,7 +4,6 @@ use Prim.Native.Nat.{ℕ, ◌+◌, ◌*◌, min}
 use lib.ListN.{get_or, replicate}
 use Rattle.words.specs.Blocks.{puts}
 use Rattle.state_words.specs.Meaning.{activation_at}
-use borrow.Author.Rules.{rules}
 use Rattle.state_words.proofs.activations.drop_used.Goals as goal
 
 pub returns-then-c-gt-VARIABLE_ROOM : goal.returns-then-c-gt-VARIABLE_ROOM

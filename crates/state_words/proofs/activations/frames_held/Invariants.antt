@@ -1,9 +1,6 @@
-use mathlib.Core.Path.{◌≡◌, refl, ap, ◌∙◌}
+use mathlib.Core.Path.{◌≡◌}
 use Prim.Native.Nat.{◌*◌, ◌-◌, ◌≤◌}
-use native.Mathlib.Omega.{arith}
 use Rattle.spec_image.specs.Decode.{held_in}
-use Rattle.state_words.proofs.Totals.{total_next}
-use borrow.Author.Rules.{rules}
 use Rattle.state_words.proofs.activations.frames_held.Given as goal
 
 abbrev pub invariant-loop-a : goal.invariant-loop-a
