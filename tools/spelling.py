@@ -147,7 +147,7 @@ def turn_source(text, names):
 
 # Constructors that stand several in a line, or whose name a library's lemma has too: (words, files).
 CONSTRUCTORS = [
-    ("op-first op-second call-first call-enter", ["spec_machine/specs/Machine.antt"]),
+    ("op-first op-second call-first call-enter", ["spec_machine/specs/Machine.antt", "spec_machine/specs/Next.antt"]),
     (
         "and-true and-false",
         [
