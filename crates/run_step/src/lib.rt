@@ -33,14 +33,6 @@ use state_stack::top::Top;
 use state_words::layout::{FRAME_AND, FRAME_CALL, FRAME_OPERATOR, IMAGE_WORDS, SLOTS};
 use state_words::{Control, Value};
 
-// The answer where no rule applies: it asks for a contradiction, so no caller can reach it.
-fn unreachable() -> Stepped
-    requires { ⊥ }
-    ensures { ⊥ }
-{
-    Stepped::Full
-}
-
 // The next operand of the top frame, which has y values and z nodes waiting.
 fn next_operand(part: &[u8], m: &mut [u32], h: Registers, y: u32, z: u32, v: Value) -> Stepped
     requires bounds { Bounds h m.old × (1 ≤ h.frames) × (y < 8) × (1 ≤ z) }
@@ -67,12 +59,10 @@ fn operate(file: &[u8], m: &mut [u32], h: Registers, o: u32, v: Value) -> Steppe
     requires ints { IsInt v × (get_or m.old (frames_at + (h.under + (h.frames - 1)) * frame_size + (slots_from + 0 * 2)) 0 ≡ 1) }
     ensures { (α : RunEnv) (f : ℕ) (η : List values.Value) (a b : ℕ) (K : List Frame) (A : List Saved) (R : Rest) → m.old ≡ core f η (machine.gather (program.op o) (values.int a ∷ []) [] ∷ K) A ++ R α → Describes file.now h f (machine.gather (program.op o) (values.int a ∷ []) [] ∷ K) A → value_is v ≡ values.int b → StepsBy file.now result m.old m.new R (next.settle α f η K A (values.result (edition_of file.now) o a b)) }
 {
-    let Value::Int(b) = v else {
-        return unreachable();
-    };
+    let Value::Int(b) = v else { unreachable!() };
     let frames = h.frames - 1;
     let Value::Int(a) = state_words::frames::slot_value(m, h.under + frames, 0) else {
-        return unreachable();
+        unreachable!()
     };
     match arith::apply(file, o as u8, a, b) {
         Applied::Int(word) => run_rules::take_off(m, h, Control::Int(word)),
@@ -87,7 +77,7 @@ fn choose(m: &mut [u32], h: Registers, v: Value, yes: Control, no: Control) -> S
     ensures { (s : List ℕ) (p q : machine.Rule) → HoldingTop s m.old h (λ α f η fr K A R. StepsBy s result m.old m.new R (next.on_truth (value_is v) (next.goes p (running (control_is yes) α f η K A)) (next.goes q (running (control_is no) α f η K A)))) }
 {
     let Value::Truth(truth) = v else {
-        return unreachable();
+        unreachable!()
     };
     if truth {
         run_rules::take_off(m, h, yes)
@@ -102,7 +92,7 @@ fn affirm(m: &mut [u32], h: Registers, v: Value) -> Stepped
     ensures { (s : List ℕ) (p q : machine.Rule) → HoldingTop s m.old h (λ α f η fr K A R. StepsBy s result m.old m.new R (next.on_truth (value_is v) (next.goes p (running (machine.exec program.Ref.nop) α f η K A)) (next.goes q (machine.exception machine.abort)))) }
 {
     let Value::Truth(truth) = v else {
-        return unreachable();
+        unreachable!()
     };
     if truth {
         run_rules::take_off(m, h, Control::Exec(0))
@@ -125,9 +115,7 @@ fn depart(
     ensures { Holding file.now m.old h (λ α f η K A R. StepsBy file.now result m.old m.new R (next.leaving α (value_is v) A)) }
 {
     if h.callers == 0 {
-        let Value::Int(word) = v else {
-            return unreachable();
-        };
+        let Value::Int(word) = v else { unreachable!() };
         return run_rules::calling::leave_main(m, h, word);
     }
     run_rules::calling::leave(file, starts, m, h, v)
@@ -196,7 +184,7 @@ fn open(
             )
         }
         5 => call(file, starts, part, m, h, at),
-        _ => unreachable(),
+        _ => unreachable!(),
     }
 }
 
@@ -231,7 +219,7 @@ fn give(
             let c = run_rules::gathering::reach(part, l);
             choose(m, h, v, c, Control::Truth(false))
         }
-        Top::Wait(r) => unreachable(),
+        Top::Wait(r) => unreachable!(),
         Top::Store(x) => run_rules::assign(m, h, x, v),
         Top::Branch(a, b) => choose(m, h, v, Control::Exec(a), Control::Exec(b)),
         Top::Leave => depart(file, starts, m, h, v),

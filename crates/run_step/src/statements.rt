@@ -18,7 +18,6 @@ ghost use Rattle.spec_image.specs.Core.{core};
 ghost use Rattle.run_rules.specs.StepsTo.{Rest, Describes, Bounds, StepsTo, Holding};
 ghost use Rattle.run_step.specs.StepsBy.{in_loop, Executes, StepsBy};
 
-use crate::unreachable;
 use records::nodes::{b_at, kind_at, prior};
 use records::wide;
 use run_rules::{Registers, Stepped};
@@ -107,7 +106,7 @@ fn execute_node(part: &[u8], m: &mut [u32], h: Registers, i: u32) -> Stepped
             0,
             run_rules::gathering::reach(part, last as u32),
         ),
-        _ => unreachable(),
+        _ => unreachable!(),
     }
 }
 
