@@ -1,7 +1,7 @@
 // The working arrays of the check by the file's size, each in a function of its own: a short file costs little stack and time.
 //
-// The compiler puts the arrays of a function that it inlines into the caller's frame. A function that calls itself is not inlined, so those
-// with large arrays do, k times; k is 0 for every file of up to 65,535 bytes, and none longer than 50,700 comes here.
+// The compiler puts the arrays of a function that it inlines into the caller's frame, so those with large arrays are never inlined. They also
+// call themselves k times; k is 0 for every file of up to 65,535 bytes, and none longer than 50,700 comes here.
 ghost use Rattle.std.specs.Prelude.{◌≡◌, ◌⊎◌, ◌+◌, ◌*◌, ◌≤◌, ◌<◌, length};
 ghost use Rattle.records.specs.Fields.{functions};
 ghost use Rattle.records.specs.Parts.{Laid};
@@ -59,6 +59,7 @@ fn tiny_floor(file: &[u8]) -> u8
 }
 
 // Files of up to 256 nodes.
+#[inline(never)]
 fn short_floor(file: &[u8], k: usize) -> u8
     requires { Laid file.now × (length file.now ≤ 12 * (1 + functions file.now + 256)) }
     ensures { FloorIs file.now result }
@@ -74,6 +75,7 @@ fn short_floor(file: &[u8], k: usize) -> u8
 }
 
 // Files of up to 1,024 nodes.
+#[inline(never)]
 fn middle_floor(file: &[u8], k: usize) -> u8
     requires { Laid file.now × (length file.now ≤ 12 * (1 + functions file.now + 1024)) }
     ensures { FloorIs file.now result }
@@ -89,6 +91,7 @@ fn middle_floor(file: &[u8], k: usize) -> u8
 }
 
 // All files.
+#[inline(never)]
 fn long_floor(file: &[u8], k: usize) -> u8
     requires { Laid file.now }
     ensures { FloorIs file.now result }
@@ -133,6 +136,7 @@ fn either(first: Answer, second: Answer) -> Answer
 }
 
 // Questions 13 and 14, from q on, put to files of up to 256 nodes.
+#[inline(never)]
 fn short_flows(file: &[u8], q: u8, k: usize) -> Answer
     requires { AtFlows file.now q × (length file.now ≤ 12 * (1 + functions file.now + 256)) }
     ensures { AnswersTo file.now 15 result × Small result }
@@ -146,6 +150,7 @@ fn short_flows(file: &[u8], q: u8, k: usize) -> Answer
 }
 
 // Put to files of up to 1,024 nodes.
+#[inline(never)]
 fn middle_flows(file: &[u8], q: u8, k: usize) -> Answer
     requires { AtFlows file.now q × (length file.now ≤ 12 * (1 + functions file.now + 1024)) }
     ensures { AnswersTo file.now 15 result × Small result }
@@ -159,6 +164,7 @@ fn middle_flows(file: &[u8], q: u8, k: usize) -> Answer
 }
 
 // Put to all files.
+#[inline(never)]
 fn long_flows(file: &[u8], q: u8, k: usize) -> Answer
     requires { AtFlows file.now q }
     ensures { AnswersTo file.now 15 result × Small result }

@@ -25,6 +25,7 @@ pub fn tiny_fits(file: &[u8], m: &[u32]) -> bool
 }
 
 // Whether the running state is fit for the program of a short file; the call to itself, which no accepted file comes to, keeps the table out of the caller's frame.
+#[inline(never)]
 pub fn short_fits(file: &[u8], m: &[u32], k: usize) -> bool
     requires file { (check_of file.now ≡ accepted) × (size ≤ length m.now) × HoldsState m.now × (get_or m.now 0 0 ≡ 2) × (is_entry (program_of file.now) (get_or m.now entry_at 0) ≡ true) }
     requires room { length file.now ≤ 12 * (1 + functions file.now + 256) }
@@ -39,6 +40,7 @@ pub fn short_fits(file: &[u8], m: &[u32], k: usize) -> bool
 }
 
 // The same for a middling file.
+#[inline(never)]
 pub fn middle_fits(file: &[u8], m: &[u32], k: usize) -> bool
     requires file { (check_of file.now ≡ accepted) × (size ≤ length m.now) × HoldsState m.now × (get_or m.now 0 0 ≡ 2) × (is_entry (program_of file.now) (get_or m.now entry_at 0) ≡ true) }
     requires room { length file.now ≤ 12 * (1 + functions file.now + 1024) }
@@ -53,6 +55,7 @@ pub fn middle_fits(file: &[u8], m: &[u32], k: usize) -> bool
 }
 
 // The same for any file, with a table for the most nodes.
+#[inline(never)]
 pub fn long_fits(file: &[u8], m: &[u32], k: usize) -> bool
     requires { (check_of file.now ≡ accepted) × (size ≤ length m.now) × HoldsState m.now × (get_or m.now 0 0 ≡ 2) × (is_entry (program_of file.now) (get_or m.now entry_at 0) ≡ true) }
     ensures { (s : State) (R : List ℕ) → m.now ≡ image s ++ R → WithinLimits s → Narrow s → result ≡ fit (program_of file.now) s }
