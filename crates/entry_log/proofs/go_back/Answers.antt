@@ -1,6 +1,5 @@
 use mathlib.Core.Path.{sym, ap, ◌∙◌}
 use lib.Seq.{length-take-le}
-use borrow.Author.Tests.{not-true, not-false}
 use Rattle.spec_image.specs.Sizes.{size}
 use Rattle.spec_log.specs.Records.{earlier}
 use Rattle.run_loop.proofs.Holding.{words_held}
@@ -17,10 +16,10 @@ copy-requires c = sym (length-take-le size c.args.m.now c.requires.1)
 
 pub returns-then-not-holds_fit : goal.returns-then-not-holds_fit
 returns-then-not-holds_fit c = let e = c.restore.ensures ∙ ap (earlier _ _) c.copy.ensures in
-    let q = unfit _ _ _ _ c.requires.2 c.requires.1 _ e (sym c.holds_fit.ensures ∙ not-true _ c.if-not-holds_fit.true-raw) in record { answer = q.0; memory = q.1 }
+    let q = unfit _ _ _ _ c.requires.2 c.requires.1 _ e (sym c.holds_fit.ensures ∙ c.if-not-holds_fit.true) in record { answer = q.0; memory = q.1 }
 
 pub run-ran-requires : goal.run-ran-requires
-run-ran-requires c = (words_held _ _ c.requires.0.passed (sym c.holds_fit.ensures ∙ not-false _ c.if-not-holds_fit.false-raw), search rules)
+run-ran-requires c = (words_held _ _ c.requires.0.passed (sym c.holds_fit.ensures ∙ c.if-not-holds_fit.false), search rules)
 
 pub slice_bounds-is_same-end-else-ran-eq0-2 : goal.slice_bounds-is_same-end-else-ran-eq0-2
 slice_bounds-is_same-end-else-ran-eq0-2 c = sym (length-take-le size c.args.m.now c.requires.1)
@@ -30,10 +29,10 @@ is_same-requires c = let e = length-take-le size c.args.m.now c.requires.1 in se
 
 pub returns-then-ran-eq0 : goal.returns-then-ran-eq0
 returns-then-ran-eq0 c = let e = c.restore.ensures ∙ ap (earlier _ _) c.copy.ensures in
-    let f = sym c.holds_fit.ensures ∙ not-false _ c.if-not-holds_fit.false-raw in
+    let f = sym c.holds_fit.ensures ∙ c.if-not-holds_fit.false in
     elim c.then-ran-eq0.branch [
       | then-ran-eq0-via-then-ran-eq0 w ↦ let q = stood _ _ _ _ c.requires.2 c.requires.1 _ e f _ _ _ c.run-ran.ensures w.if-ran-eq0.true in record { answer = q.0; memory = q.1 }
-      | then-ran-eq0-via-else-ran-eq0+then-not-is_same w ↦ let q = elsewhere _ _ _ _ c.requires.2 c.requires.1 _ e f _ _ _ c.run-ran.ensures w.if-ran-eq0.false (sym w.is_same.ensures ∙ not-true _ w.if-not-is_same.true-raw) in record { answer = q.0; memory = q.1 }
+      | then-ran-eq0-via-else-ran-eq0+then-not-is_same w ↦ let q = elsewhere _ _ _ _ c.requires.2 c.requires.1 _ e f _ _ _ c.run-ran.ensures w.if-ran-eq0.false (sym w.is_same.ensures ∙ w.if-not-is_same.true) in record { answer = q.0; memory = q.1 }
     ]
 
 pub slice_bounds-restore-end-3 : goal.slice_bounds-restore-end-3
@@ -44,5 +43,5 @@ restore-requires-2 c = (c.requires.2, length-take-le size c.args.m.now c.require
 
 pub returns : goal.returns
 returns c = let e = c.restore.ensures ∙ ap (earlier _ _) c.copy.ensures in
-    let f = sym c.holds_fit.ensures ∙ not-false _ c.if-not-holds_fit.false-raw in
-    let q = leads_back_lem _ _ _ _ c.requires.2 c.requires.1 _ e f _ _ _ c.run-ran.ensures c.if-ran-eq0.false (sym c.is_same.ensures ∙ not-false _ c.if-not-is_same.false-raw) _ c.restore-2.ensures in record { answer = q.0; memory = q.1 }
+    let f = sym c.holds_fit.ensures ∙ c.if-not-holds_fit.false in
+    let q = leads_back_lem _ _ _ _ c.requires.2 c.requires.1 _ e f _ _ _ c.run-ran.ensures c.if-ran-eq0.false (sym c.is_same.ensures ∙ c.if-not-is_same.false) _ c.restore-2.ensures in record { answer = q.0; memory = q.1 }

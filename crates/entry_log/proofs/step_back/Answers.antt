@@ -1,6 +1,5 @@
 use mathlib.Core.Path.{sym, ap, ◌∙◌}
 use lib.ListN.{length}
-use borrow.Author.Tests.{not-true, not-false}
 use Rattle.check_file.specs.Answers.{says}
 use Rattle.entry_log.proofs.Backs.{back_early, no_record, record_within, may_go, not_back, went_back_lem}
 use borrow.Author.Rules.{rules}
@@ -25,7 +24,7 @@ unfolding says
 returns-then-bytes-eq0 c = let e = sym c.check_memory.ensures.answer ∙ ap says c.in_default.is in
     elim c.then-bytes-eq0.branch [
       | then-bytes-eq0-via-then-bytes-eq0 w ↦ let q = no_record _ _ _ _ e _ c.last_bytes-bytes.ensures w.if-bytes-eq0.true c.then-bytes-eq0.m w.m-is in record { answer = q.0; small = (search rules, search rules); memory = q.1 }
-      | then-bytes-eq0-via-else-bytes-eq0+then-not-go_back w ↦ let q = not_back _ _ _ _ e _ c.last_bytes-bytes.ensures w.if-bytes-eq0.false _ _ w.go_back.ensures.answer w.go_back.ensures.memory (not-true _ w.if-not-go_back.true-raw) c.then-bytes-eq0.m w.m-is in record { answer = q.0; small = (search rules, search rules); memory = q.1 }
+      | then-bytes-eq0-via-else-bytes-eq0+then-not-go_back w ↦ let q = not_back _ _ _ _ e _ c.last_bytes-bytes.ensures w.if-bytes-eq0.false _ _ w.go_back.ensures.answer w.go_back.ensures.memory (w.if-not-go_back.true) c.then-bytes-eq0.m w.m-is in record { answer = q.0; small = (search rules, search rules); memory = q.1 }
     ]
 
 pub overflow_sub-result : goal.overflow_sub-result
@@ -34,4 +33,4 @@ overflow_sub-result c = record_within _ _ _ _ (sym c.check_memory.ensures.answer
 
 pub returns : goal.returns
 unfolding says
-returns c = let q = went_back_lem _ _ _ _ (sym c.check_memory.ensures.answer ∙ ap says c.in_default.is) _ c.last_bytes-bytes.ensures c.if-bytes-eq0.false _ _ c.go_back.ensures.answer c.go_back.ensures.memory (not-false _ c.if-not-go_back.false-raw) in record { answer = q.0; small = tt; memory = q.1 }
+returns c = let q = went_back_lem _ _ _ _ (sym c.check_memory.ensures.answer ∙ ap says c.in_default.is) _ c.last_bytes-bytes.ensures c.if-bytes-eq0.false _ _ c.go_back.ensures.answer c.go_back.ensures.memory (c.if-not-go_back.false) in record { answer = q.0; small = tt; memory = q.1 }
