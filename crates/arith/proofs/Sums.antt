@@ -1,5 +1,5 @@
 -- Sums, differences and products of words modulo 2 ^ 32 are those of the integers that they are read as.
-use Rattle.std.proofs.Common.{◌≡◌, ℕ, zero, suc, ◌+◌, ◌-◌, ◌*◌, ◌%◌, ◌^◌, ◌<◌, ◌≤◌, ℤ, pos, ◌+ℤ◌, ◌-ℤ◌, ◌*ℤ◌, neg_ℤ, sym, refl, ◌∙◌, lt_of_le_of_lt, le_of_lt, mul_comm, add-mul, add_comm, mul-le-mul_left, mul-lt-mul_of_pos_right, mul-add, arith, lit<, le-ltb, lt-ltb}
+use Rattle.std.proofs.Common.{◌≡◌, ℕ, zero, suc, ◌+◌, ◌-◌, ◌*◌, ◌%◌, ◌^◌, ◌<◌, ◌≤◌, ℤ, pos, ◌+ℤ◌, ◌-ℤ◌, ◌*ℤ◌, neg_ℤ, sym, refl, ◌∙◌, mul_comm, add-mul, add_comm, mul-add, arith, le-ltb, lt-ltb}
 use native.Mathlib.Nat.{mul-mod_left}
 use native.Mathlib.Decide.{dec_lt}
 use lib.IntN.{sub_ℕ}
@@ -44,12 +44,9 @@ sub_read {a} {b} p (low k) = sub_pos b k p
 sub_read {a} {b} (low h) (high n k e) = omega arith
 sub_read {a} {b} (high n h e) (high m k f) = wrap_sub (suc m) (suc n) (a + (2 ^ 32 - b)) (omega arith)
 
--- the word whose sum with b is a
-pub sub_law : {r : ℕ} (a b : ℕ) → r < 2 ^ 32 → a < 2 ^ 32 → b < 2 ^ 32 → (r + b) % 2 ^ 32 ≡ a → r ≡ sub_of a b
+pub sub_law : (a b : ℕ) → a < 2 ^ 32 → b < 2 ^ 32 → sub_of a b ≡ (a + (2 ^ 32 - b)) % 2 ^ 32
 unfolding sub_of
-sub_law {r} a b hr ha hb e =
-    let q : r ≡ (a + (2 ^ 32 - b)) % 2 ^ 32 = omega arith in
-    q ∙ sym (sub_read (reading a ha) (reading b hb))
+sub_law a b ha hb = sub_read (reading a ha) (reading b hb)
 
 complement : (X Y Z p q : ℕ) → X + Y ≡ p * 2 ^ 32 → Z + Y ≡ q * 2 ^ 32 → X % 2 ^ 32 ≡ Z % 2 ^ 32
 complement X Y Z p q h k = omega arith
@@ -76,6 +73,3 @@ mul_law a b h k = mul_read (reading a h) (reading b k)
 pub shl_law : (a count : ℕ) → a < 2 ^ 32 → shl_of a count ≡ (a * 2 ^ count) % 2 ^ 32
 unfolding shl_of
 shl_law a count h = mul-pos (2 ^ count) (reading a h)
-
-pub mul_below : (a b : ℕ) → a < 2 ^ 32 → b < 2 ^ 32 → a * b < 2 ^ 64
-mul_below a b h k = lt_of_le_of_lt (mul-le-mul_left a (le_of_lt k)) (mul-lt-mul_of_pos_right h (lit< tt))

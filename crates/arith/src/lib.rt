@@ -17,50 +17,46 @@ pub enum Applied {
 }
 
 // A word read as signed.
+#[tactic(auto, using(crate::proofs::Casts::signed_is))]
 pub fn signed(a: u32) -> i32
     ensures { result ≡ int a }
 {
-    if a < 2147483648 {
-        a as i32
-    } else {
-        (a as i64 - 4294967296) as i32
-    }
+    a.cast_signed()
 }
 
 // The word of an integer.
+#[tactic(auto, using(crate::proofs::WordInts::wrap_of_z))]
 pub fn bits(z: i32) -> u32
     ensures { result ≡ wrap z }
 {
-    if 0 <= z {
-        z as u32
-    } else {
-        (z as i64 + 4294967296) as u32
-    }
+    z.cast_unsigned()
 }
 
 // The sum.
+#[tactic(auto, using(crate::proofs::Sums::add_law))]
 fn add(a: u32, b: u32) -> u32
     ensures { result ≡ add_of a b }
 {
-    std::num::wrapping_add_u32(a, b)
+    a.wrapping_add(b)
 }
 
 // The difference.
+#[tactic(auto, using(crate::proofs::Sums::sub_law))]
 fn sub(a: u32, b: u32) -> u32
     ensures { result ≡ sub_of a b }
 {
-    std::num::wrapping_sub_u32(a, b)
+    a.wrapping_sub(b)
 }
 
 // The product.
+#[tactic(auto, using(crate::proofs::Sums::mul_law))]
 fn mul(a: u32, b: u32) -> u32
     ensures { result ≡ mul_of a b }
 {
-    let p = a as u64 * b as u64;
-    (p % 4294967296) as u32
+    a.wrapping_mul(b)
 }
 
-// Whether both divisions raise arith.
+// Whether both divisions raise arith. It is kept beside checked_div and checked_rem: it says once what both would answer None for, and the wrong programs are of this line.
 fn no_quotient(a: u32, b: u32) -> bool
     ensures { result ≡ no_quotient a b }
 {
@@ -105,7 +101,7 @@ fn shl(edition: u8, a: u32, b: u32) -> Applied
     if no_shift(edition, b) {
         return Applied::Arith;
     }
-    Applied::Int(a << (b % 32))
+    Applied::Int(a.wrapping_shl(b))
 }
 
 // The shift to the right.
@@ -115,9 +111,7 @@ fn shr(edition: u8, a: u32, b: u32) -> Applied
     if no_shift(edition, b) {
         return Applied::Arith;
     }
-    let z = signed(a);
-    let n = (b % 32) as i32;
-    Applied::Int(bits(z >> n))
+    Applied::Int(bits(signed(a).wrapping_shr(b)))
 }
 
 // Whether a is less than b.

@@ -12,7 +12,7 @@ ghost use Rattle.check_effects.specs.Effects.{return_code, Covers, Means};
 
 use records::format::TYPE_UNSET;
 use records::nodes::{b_at, kind_at};
-use varset::VarSet;
+use varset::{EMPTY, VarSet};
 
 // The code of a statement; the code of an expression, which is its type, is below it.
 pub const STATEMENT: u8 = 16;
@@ -28,6 +28,13 @@ pub struct Effect {
     pub reads: VarSet,
     pub sets: VarSet,
 }
+
+// What is not known to pass.
+pub const FAILING: Effect = Effect {
+    code: TYPE_UNSET,
+    reads: EMPTY,
+    sets: EMPTY,
+};
 
 // The set with the variable of node i where the node is a decl.
 pub fn with_decl(part: &[u8], i: usize, set: VarSet) -> VarSet
@@ -65,65 +72,53 @@ fn code_both(a: u8, b: u8) -> u8
 
 // One statement after another, where these variables are declared up to there.
 pub fn in_sequence(first: Effect, second: Effect, declared: VarSet) -> Effect
-    ensures { (s u : Statement) → Means s (has declared.0) first.code first.reads.0 first.sets.0 → Means u (has declared.0) second.code second.reads.0 second.sets.0 → result.code < unset → Means (Seq s u) (has declared.0) result.code result.reads.0 result.sets.0 }
+    ensures { (s u : Statement) → Means s (has declared.0) first → Means u (has declared.0) second → result.code < unset → Means (Seq s u) (has declared.0) result }
 {
-    let early = first.reads;
-    let late = second.reads;
-    let set = first.sets;
-    let after = second.sets;
     let code = code_either(first.code, second.code);
     Effect {
-        code: code_if(late.meet(declared).is_empty(), code),
-        reads: early.union(late.minus(set)),
-        sets: set.minus(declared).union(after),
+        code: code_if(second.reads.meet(declared).is_empty(), code),
+        reads: first.reads.union(second.reads.minus(first.sets)),
+        sets: first.sets.minus(declared).union(second.sets),
     }
 }
 
 // A statement in the scope of x, which is one of the variables declared up to there.
 pub fn in_scope(inner: Effect, x: u32) -> Effect
     requires { x < most_variables }
-    ensures { (s : Statement) (d : Set) → d x ≡ true → Means s d inner.code inner.reads.0 inner.sets.0 → result.code < unset → Means (Decl x s) d result.code result.reads.0 result.sets.0 }
+    ensures { (s : Statement) (d : Set) → d x ≡ true → Means s d inner → result.code < unset → Means (Decl x s) d result }
 {
-    let reads = inner.reads;
-    let sets = inner.sets;
-    let code = inner.code;
     Effect {
-        code: code_if(!reads.contains(x), code),
-        reads,
-        sets: sets.remove(x),
+        code: code_if(!inner.reads.contains(x), inner.code),
+        reads: inner.reads,
+        sets: inner.sets.remove(x),
     }
 }
 
 // Two branches after a condition that reads these variables.
 pub fn in_branches(condition: VarSet, first: Effect, second: Effect) -> Effect
-    ensures { (e : List Read) (s u : Statement) (d : Set) → Covers e (has condition.0) → Means s d first.code first.reads.0 first.sets.0 → Means u d second.code second.reads.0 second.sets.0 → Means (If e s u) d result.code result.reads.0 result.sets.0 }
+    ensures { (e : List Read) (s u : Statement) (d : Set) → Covers e (has condition.0) → Means s d first → Means u d second → Means (If e s u) d result }
 {
-    let early = first.reads;
-    let late = second.reads;
-    let set = first.sets;
-    let after = second.sets;
     Effect {
         code: code_both(first.code, second.code),
-        reads: condition.union(early.union(late)),
-        sets: set.meet(after),
+        reads: condition.union(first.reads.union(second.reads)),
+        sets: first.sets.meet(second.sets),
     }
 }
 
 // A loop's body after its condition, which reads these variables.
 pub fn in_loop(condition: VarSet, body: Effect) -> Effect
-    ensures { (e : List Read) (s : Statement) (d : Set) → Covers e (has condition.0) → Means s d body.code body.reads.0 body.sets.0 → Means (While e s) d result.code result.reads.0 result.sets.0 }
+    ensures { (e : List Read) (s : Statement) (d : Set) → Covers e (has condition.0) → Means s d body → Means (While e s) d result }
 {
-    let reads = body.reads;
     Effect {
         code: STATEMENT,
-        reads: condition.union(reads),
+        reads: condition.union(body.reads),
         sets: VarSet::empty(),
     }
 }
 
 // A statement without parts.
 pub fn plain(code: u8, reads: VarSet, sets: VarSet) -> Effect
-    ensures { (result.code ≡ code) × (result.reads ≡ reads) × (result.sets ≡ sets) }
+    ensures { result ≡ record { code = code; reads = reads; sets = sets } }
 {
     Effect { code, reads, sets }
 }

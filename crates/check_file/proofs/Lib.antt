@@ -3,3 +3,4 @@ pub mod Walk
 pub mod Rounds
 pub mod Stages
 pub mod Passing
+pub mod Refusals

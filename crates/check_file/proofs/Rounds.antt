@@ -1,4 +1,5 @@
 -- One turn of the loop over questions 7 to 14, and what the turns before it have shown.
+use Rattle.std.specs.Prelude.{None, Ok, Err}
 use mathlib.Core.Path.{◌≡◌, refl, sym, ap, ◌∙◌}
 use mathlib.Core.Bool.{true}
 use mathlib.Core.List.{List}
@@ -8,8 +9,7 @@ use native.Mathlib.Omega.{arith}
 use native.Mathlib.Decide.{dec_lt, dec_le}
 use Rattle.records.specs.Fields.{functions, count_of}
 use Rattle.records.specs.Parts.{part_of, Laid}
-use Rattle.records.specs.Search.{first_in}
-use Rattle.records.specs.declared.Found.TheVariants.{At, Nothing}
+use Rattle.records.specs.Search.{At, first_in}
 use Rattle.spec_language.specs.Nodes.{node_ok, size_ok, misplaced, answers}
 use Rattle.spec_language.specs.Check.{accepted, refused, in_part, part_questions, refuse, first_refusal}
 use Rattle.spec_language.proofs.Facts.{known, calls}
@@ -17,9 +17,7 @@ use Rattle.spec_language.proofs.Accept.{asked_none, all_pass, asked_part}
 use Rattle.spec_language.specs.Known.{Known, CallsKnown, WellFormed}
 use Rattle.records.proofs.Loops as loops
 use Rattle.records.proofs.PartWalks.{part_length}
-use Rattle.check_file.specs.declared.Answer.{Answer}
-use Rattle.check_file.specs.declared.Answer.TheVariants.{Accepted, Refused}
-use Rattle.check_file.specs.Answers.{says}
+use Rattle.check_file.specs.Answers.{Answer, says}
 use Rattle.check_file.specs.Stages.{PassedBefore, Ready, AnswersTo}
 
 pub none_passed : (s : List ℕ) → PassedBefore s 7
@@ -28,10 +26,10 @@ none_passed s k p q = absurd (omega arith)
 pub fewer_passed : (s : List ℕ) {q r : ℕ} → r ≤ q → PassedBefore s q → PassedBefore s r
 fewer_passed s l h k p m = h k p (omega arith)
 
-pub more_passed : (s : List ℕ) (q : ℕ) → PassedBefore s q → first_in (in_part q s) (functions s) 0 ≡ Nothing → PassedBefore s (q + 1)
+pub more_passed : (s : List ℕ) (q : ℕ) → PassedBefore s q → first_in (in_part q s) (functions s) 0 ≡ None → PassedBefore s (q + 1)
 more_passed s q h e k p l = go (dec_lt k q)
   where
-    go : Dec (k < q) → first_in (in_part k s) (functions s) 0 ≡ Nothing
+    go : Dec (k < q) → first_in (in_part k s) (functions s) 0 ≡ None
     go (yes m) = h k p m
     go (no m) = let z : k ≡ q = omega arith in rw z e
 
@@ -71,7 +69,7 @@ module _ (s : List ℕ) (q : ℕ) where
   unfolding refuse
   round_found p x h e = round h ∙ rw e
 
-  round_on : q < 15 → first_in (in_part q s) (functions s) 0 ≡ Nothing → first_refusal (part_questions s (15 - q) q) ≡ first_refusal (part_questions s (15 - (q + 1)) (q + 1))
+  round_on : q < 15 → first_in (in_part q s) (functions s) 0 ≡ None → first_refusal (part_questions s (15 - q) q) ≡ first_refusal (part_questions s (15 - (q + 1)) (q + 1))
   unfolding refuse
   round_on h e = round h ∙ rw e
 
@@ -100,8 +98,8 @@ one_of_two P (inr e) x y = rw e y
 -- the answer of all questions is the check's
 pub answers_all : (s : List ℕ) (r : Answer) → AnswersTo s 15 r → says r ≡ first_refusal (part_questions s 8 7)
 unfolding says
-answers_all s Accepted h = sym (none_found s 15 (omega arith) h)
-answers_all s (Refused r) h = h
+answers_all s (Ok u) h = sym (none_found s 15 (omega arith) h)
+answers_all s (Err r) h = h
 
 -- the questions before the greater of two find nothing
 pub greater_passed : (s : List ℕ) {a b r : ℕ} → PassedBefore s a → PassedBefore s b → (b ≤ a → r ≡ a) → (a ≤ b → r ≡ b) → PassedBefore s r

@@ -1,4 +1,5 @@
 -- What the answers to questions 1 to 6 make of the check's definition, and what they show of the file.
+use Rattle.std.specs.Prelude.{Option, None}
 use mathlib.Core.Path.{◌≡◌, sym, ◌∙◌}
 use mathlib.Core.Bool.{Bool, true, false, not}
 use mathlib.Core.List.{List}
@@ -9,9 +10,8 @@ use lib.ListN.{length}
 use borrow.Author.Tests.{eqb-true, eq-eqb, ne_eqb, le-leb, lt-leb}
 use Rattle.records.specs.Fields.{functions, nodes}
 use Rattle.records.specs.Parts.{sum_of, Laid}
-use Rattle.records.specs.Search.{first_of, shift, unless}
+use Rattle.records.specs.Search.{At, first_of, shift, unless}
 use Rattle.records.specs.declared.Found.{Found}
-use Rattle.records.specs.declared.Found.TheVariants.{At, Nothing}
 use Rattle.spec_language.specs.Records.{length_ok, header_ok, records_ok, function_ok, sum_ok, main_ok}
 use Rattle.spec_language.specs.Check.{refused, part_questions, questions, refuse, first_refusal, check_of}
 use Rattle.spec_language.proofs.Facts.{header_is, function_is, laid}
@@ -32,27 +32,27 @@ module _ (s : List ℕ) (two : header_ok s ≡ true) (three : records_ok s ≡ t
       let e : length s ≡ 12 * (1 + functions s + nodes s) = eqb-true _ _ three in
       record { few = h.few; heads = omega (arith, h.few); whole = omega (arith, h.few, h.small) }
 
-  pub laid_out : first_of (λ f. not (function_ok s f)) (functions s) ≡ Nothing → sum_ok s ≡ true → Laid s
+  pub laid_out : first_of (λ f. not (function_ok s f)) (functions s) ≡ None → sum_ok s ≡ true → Laid s
   laid_out four five =
       laid s (header_is s two) three (λ f l. function_is s f (all_pass (function_ok s) (functions s) four f l)) five
 
 module _ (s : List ℕ) where
-  abbrev four : Found
+  abbrev four : Option Found
   four = first_of (λ f. not (function_ok s f)) (functions s)
 
   pub four_fails : (f x : ℕ) → four ≡ At f x → first_refusal (from_four s) ≡ refused 4 (1 + f) x
   unfolding from_four first_refusal refuse shift
   four_fails f x e = rw e
 
-  pub five_fails : four ≡ Nothing → sum_ok s ≡ false → first_refusal (from_four s) ≡ refused 5 0 0
+  pub five_fails : four ≡ None → sum_ok s ≡ false → first_refusal (from_four s) ≡ refused 5 0 0
   unfolding from_four first_refusal refuse shift unless
   five_fails e g = rw (e, g)
 
-  pub six_fails : four ≡ Nothing → sum_ok s ≡ true → main_ok s ≡ false → first_refusal (from_four s) ≡ refused 6 1 0
+  pub six_fails : four ≡ None → sum_ok s ≡ true → main_ok s ≡ false → first_refusal (from_four s) ≡ refused 6 1 0
   unfolding from_four first_refusal refuse shift unless
   six_fails e g h = rw (e, g, h)
 
-  pub six_passes : four ≡ Nothing → sum_ok s ≡ true → main_ok s ≡ true → first_refusal (from_four s) ≡ first_refusal (part_questions s 8 7)
+  pub six_passes : four ≡ None → sum_ok s ≡ true → main_ok s ≡ true → first_refusal (from_four s) ≡ first_refusal (part_questions s 8 7)
   unfolding from_four first_refusal refuse shift unless
   six_passes e g h = rw (e, g, h)
 

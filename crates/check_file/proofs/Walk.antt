@@ -1,4 +1,5 @@
 -- One turn of the walk over the functions' parts.
+use Rattle.std.specs.Prelude.{Some, Option, None}
 use mathlib.Core.Path.{◌≡◌}
 use mathlib.Core.Bool.{Bool, true, false, ◌||◌}
 use mathlib.Core.List.{List}
@@ -9,9 +10,9 @@ use lib.ListN.{length, get_or, take, drop}
 use Rattle.varset.specs.Lowest.{pick}
 use Rattle.records.specs.Fields.{functions, count_of}
 use Rattle.records.specs.Parts.{start_of, part_of, Laid}
-use Rattle.records.specs.Search.{shift}
+use Rattle.records.specs.Search.{At, shift}
 use Rattle.records.specs.declared.Found.{Found}
-use Rattle.records.specs.declared.Found.TheVariants.{At, Nothing}
+use Rattle.records.proofs.Loops.{one_place, one_item}
 use Rattle.records.proofs.PartWalks.{part_taken}
 use Rattle.spec_language.specs.Nodes.{answers}
 use Rattle.spec_language.specs.Check.{origin_of, in_part}
@@ -40,7 +41,7 @@ module _ (s : List ℕ) (q : ℕ) (laid : Laid s) {F f start n : ℕ} (e : F ≡
       (p.0, ((p.1.0, p.1.1, p.1.2, m), (λ h. rw (t, b) (r.0 h f p.0.1), λ h. (rw (t, b) (r.1 h f p.0.1), omega (arith, o h f p.0.1, b)))))
 
   -- what they find, as the definition counts its place
-  pub found : (r : Found) (o : ℕ) → r ≡ get_or (answers s f taken n) (q - 7) Nothing → o ≡ pick (eqb q 10 || eqb q 14) (1 + f) start → in_part q s f ≡ shift o r
+  pub found : (r : Option Found) (o : ℕ) → r ≡ get_or (answers s f taken n) (q - 7) None → o ≡ pick (eqb q 10 || eqb q 14) (1 + f) start → in_part q s f ≡ shift o r
   unfolding in_part origin_of
   found r o g h =
       let t : taken ≡ part_of s f = part_taken s f a b in
@@ -54,21 +55,21 @@ module _ (s : List ℕ) (q : ℕ) (laid : Laid s) {F f start n : ℕ} (e : F ≡
       go false g = omega arith
 
   -- its place lies in the file
-  pub placed : (r : Found) (o : ℕ) → length s ≤ 50700 → Placed n r → o ≡ pick (eqb q 10 || eqb q 14) (1 + f) start → (i x : ℕ) → r ≡ At i x → (o + i < 4225) × (x < 64)
+  pub placed : (r : Option Found) (o : ℕ) → length s ≤ 50700 → Placed n r → o ≡ pick (eqb q 10 || eqb q 14) (1 + f) start → (i x : ℕ) → r ≡ At i x → (o + i < 4225) × (x < 64)
   placed r o m p h i x g =
       let z = p i x g in
       (omega (arith, part_room s laid e l a b, origin_low o h, z.0), z.1)
 
-shift_at : (o i x : ℕ) (r : Found) → shift o r ≡ At i x → (j : ℕ) × (r ≡ At j x) × (o + j ≡ i)
+shift_at : (o i x : ℕ) (r : Option Found) → shift o r ≡ At i x → (j : ℕ) × (r ≡ At j x) × (o + j ≡ i)
 unfolding shift
-shift_at o i x (At j y) e =
-    let p : o + j ≡ i = cc in
-    let z : y ≡ x = cc in
-    (j, rw z, p)
-shift_at o i x Nothing e = let z : ◌≡◌ {A = ℕ} 0 1 = cc in absurd (omega arith)
+shift_at o i x (Some it) e =
+    let p : o + it.place ≡ i = one_place e in
+    let z : it.item ≡ x = one_item e in
+    (it.place, rw z, p)
+shift_at o i x None e = let z : ◌≡◌ {A = ℕ} 0 1 = cc in absurd (omega arith)
 
 -- the place that a shift gives is bounded as the sum is
-pub shift_placed : (o i x : ℕ) (r : Found) → ((i x : ℕ) → r ≡ At i x → (o + i < 4225) × (x < 64)) → shift o r ≡ At i x → (i < 4225) × (x < 64)
+pub shift_placed : (o i x : ℕ) (r : Option Found) → ((i x : ℕ) → r ≡ At i x → (o + i < 4225) × (x < 64)) → shift o r ≡ At i x → (i < 4225) × (x < 64)
 shift_placed o i x r h e =
     let z = shift_at o i x r e in
     let w = h z.0 x z.1 in

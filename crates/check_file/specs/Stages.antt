@@ -1,16 +1,13 @@
 -- The questions from 4 on, and the facts that the questions from 10 on lean on.
-use Rattle.std.specs.Prelude.{◌≡◌, not, List, ◌∷◌, ℕ, ◌*◌, ◌≤◌, ◌<◌, length}
+use Rattle.std.specs.Prelude.{None, Ok, Err, ◌≡◌, not, List, ◌∷◌, ℕ, ◌*◌, ◌≤◌, ◌<◌, length}
 use Rattle.records.specs.Format.{longest_file}
 use Rattle.records.specs.Fields.{functions, count_of}
 use Rattle.records.specs.Parts.{part_of, Laid}
 use Rattle.records.specs.Search.{first_of, shift, first_in, unless}
-use Rattle.records.specs.declared.Found.TheVariants.{Nothing}
 use Rattle.spec_language.specs.Records.{function_ok, sum_ok, main_ok}
 use Rattle.spec_language.specs.Check.{Asked, ask, in_part, part_questions, first_refusal}
 use Rattle.spec_language.specs.Known.{Known, CallsKnown, WellFormed}
-use Rattle.check_file.specs.declared.Answer.{Answer}
-use Rattle.check_file.specs.declared.Answer.TheVariants.{Accepted, Refused}
-use Rattle.check_file.specs.Answers.{says}
+use Rattle.check_file.specs.Answers.{Answer, says}
 
 -- questions 4 to 14
 unfoldable pub from_four : List ℕ → List Asked
@@ -22,7 +19,7 @@ from_four s =
 
 -- the questions from 7 to before q find nothing
 abbrev pub PassedBefore : List ℕ → ℕ → Type 0
-PassedBefore s q = (k : ℕ) → 7 ≤ k → k < q → first_in (in_part k s) (functions s) 0 ≡ Nothing
+PassedBefore s q = (k : ℕ) → 7 ≤ k → k < q → first_in (in_part k s) (functions s) 0 ≡ None
 
 -- the least question that may fail is r or a later one
 abbrev pub FloorIs : List ℕ → ℕ → Type 0
@@ -44,8 +41,8 @@ TableRoom s k = (f : ℕ) → f < functions s → 5 * count_of s f ≤ k
 
 -- the answer of the questions up to before q: none of them fails, or the check's refusal
 abbrev pub AnswersTo : List ℕ → ℕ → Answer → Type 0
-AnswersTo s q Accepted = PassedBefore s q
-AnswersTo s q (Refused r) = says (Refused r) ≡ first_refusal (part_questions s 8 7)
+AnswersTo s q (Ok u) = PassedBefore s q
+AnswersTo s q (Err r) = says (Err r) ≡ first_refusal (part_questions s 8 7)
 
 -- what is known where questions 13 and 14 are put, from q on
 abbrev pub AtFlows : List ℕ → ℕ → Type 0

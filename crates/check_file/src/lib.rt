@@ -8,12 +8,12 @@ ghost use Rattle.records.specs.Format.{most_functions, most_nodes, most_variable
 ghost use Rattle.varset.specs.Lowest.{pick};
 ghost use Rattle.records.specs.Fields.{functions};
 ghost use Rattle.records.specs.Parts.{Laid};
-ghost use Rattle.records.specs.Search.{first_in};
+ghost use Rattle.records.specs.Search.{At, first_in};
 ghost use Rattle.spec_language.specs.Records.{header_ok, records_ok};
 ghost use Rattle.spec_language.specs.Nodes.{answers};
 ghost use Rattle.spec_language.specs.Check.{first_refusal, part_questions, in_part, check_of};
 ghost use Rattle.spec_language.specs.Known.{Known, CallsKnown, WellFormed};
-ghost use Rattle.check_file.specs.Answers.{says, Small};
+ghost use Rattle.check_file.specs.Answers.{refusal_of, says, Small};
 ghost use Rattle.check_file.specs.Stages.{from_four, PassedBefore, Ready, TableRoom, AnswersTo};
 
 use records::format::SHORTEST_FILE;
@@ -27,31 +27,44 @@ pub struct Refusal {
     pub item: u32,
 }
 
-// Accepted, or refused.
-#[derive(Clone, Copy)]
-pub enum Answer {
-    Accepted,
-    Refused(Refusal),
+impl Refusal {
+    // The refusal of a file or a memory as a whole.
+    pub fn whole(question: u8) -> Refusal
+        ensures { result ≡ refusal_of question 0 0 }
+    {
+        Refusal {
+            question,
+            place: 0,
+            item: 0,
+        }
+    }
 }
 
 // What fails question q, from 7 to 14, in the part of function f, which has n nodes; for 13 and 14 the table is room for summaries.
-fn answer_in(file: &[u8], q: u8, f: usize, part: &[u8], n: usize, table: &mut [u64]) -> Found
+fn answer_in(
+    file: &[u8],
+    q: u8,
+    f: usize,
+    part: &[u8],
+    n: usize,
+    table: &mut [u64],
+) -> Option<Found>
     requires laid { Laid file.now × (f < functions file.now) }
     requires inside { (12 * n ≤ length part.now) × (1 ≤ n) × (n ≤ most_nodes) × (7 ≤ q) }
     requires known { (9 < q → Known part.now n × CallsKnown (functions file.now) part.now n) × (12 < q → WellFormed part.now n × (5 * n ≤ length table.old)) }
-    ensures exact { result ≡ get_or (answers file.now f part.now n) (q - 7) Found.Nothing }
-    ensures small { (i x : ℕ) → result ≡ Found.At i x → (i < n) × (x < most_variables) }
+    ensures exact { result ≡ get_or (answers file.now f part.now n) (q - 7) None }
+    ensures small { (i x : ℕ) → result ≡ At i x → (i < n) × (x < most_variables) }
 {
     match q {
-        7 => check_shape::first_node(file, f, part, n, 7),
-        8 => check_shape::first_node(file, f, part, n, 8),
+        7 => check_shape::first_wrong_node(file, f, part, n),
+        8 => check_shape::first_wrong_size(part, n),
         9 => check_sorts::first_misplaced(part, n),
         10 => check_scopes::first_undeclared(file, f, part, n),
         11 => check_scopes::first_outside(file, f, part, n),
         12 => check_types::first_mistyped(file, f, part, n),
         13 => check_flow::first_lacking(file, f, part, n, table),
         14 => check_flow::not_returning(part, n, table),
-        _ => Found::Nothing,
+        _ => None,
     }
 }
 
@@ -68,133 +81,103 @@ fn origin(q: u8, f: usize, start: usize) -> usize
 }
 
 // What fails question q, from 7 to 14, in the first function where anything does.
-fn first_in_parts(file: &[u8], q: u8, table: &mut [u64]) -> Found
+fn first_in_parts(file: &[u8], q: u8, table: &mut [u64]) -> Option<Found>
     requires laid { Laid file.now × (length file.now ≤ longest_file) × (7 ≤ q) }
     requires known { Ready file.now q × (12 < q → TableRoom file.now (length table.old)) }
     ensures exact { result ≡ first_in (in_part q file.now) (functions file.now) 0 }
-    ensures small { (i x : ℕ) → result ≡ Found.At i x → (i < most_records) × (x < most_variables) }
+    ensures small { (i x : ℕ) → result ≡ At i x → (i < most_records) × (x < most_variables) }
 {
     let functions = function_count(file);
-    let mut f = 0;
     let mut start = 1 + functions;
-    while f < functions {
+    for f in 0..functions {
         let n = count_of(file, f);
         let a = 12 * start;
         let e = 12 * (start + n);
-        if let Found::At(place, item) = shift_by(
-            answer_in(file, q, f, &file[a..e], n, table),
-            origin(q, f, start),
-        ) {
-            return Found::At(place, item);
+        let found = answer_in(file, q, f, &file[a..e], n, table);
+        if let Some(found) = shift_by(found, origin(q, f, start)) {
+            return Some(found);
         }
         start += n;
-        f += 1;
     }
-    Found::Nothing
+    None
 }
 
 // The questions from one to before another, where all before them pass.
-fn ask(file: &[u8], from: u8, end: u8, table: &mut [u64]) -> Answer
+fn ask(file: &[u8], from: u8, end: u8, table: &mut [u64]) -> Result<(), Refusal>
     requires laid { Laid file.now × (length file.now ≤ longest_file) × (7 ≤ from) × (end ≤ 15) }
     requires known { PassedBefore file.now from × (13 < end → TableRoom file.now (length table.old)) }
     ensures exact { AnswersTo file.now end result }
     ensures small { Small result }
 {
-    let mut q = from;
-    while q < end {
-        if let Found::At(place, item) = first_in_parts(file, q, table) {
-            return Answer::Refused(Refusal {
-                question: q,
+    for question in from..end {
+        if let Some(Found { place, item }) = first_in_parts(file, question, table) {
+            return Err(Refusal {
+                question,
                 place,
                 item,
             });
         }
-        q += 1;
     }
-    Answer::Accepted
+    Ok(())
 }
 
 // Questions 7 to 14: those from the least that may fail on.
-fn check_parts(file: &[u8]) -> Answer
+fn check_parts(file: &[u8]) -> Result<(), Refusal>
     requires { Laid file.now × (length file.now ≤ longest_file) }
     ensures exact { says result ≡ first_refusal (part_questions file.now 8 7) }
     ensures small { Small result }
 {
     let least = sizes::file_floor(file);
     if 14 < least {
-        return Answer::Accepted;
+        return Ok(());
     }
-    let mut none = [0u64; 1];
-    if let Answer::Refused(refusal) = ask(file, least, 13, &mut none) {
-        return Answer::Refused(refusal);
-    }
+    ask(file, least, 13, &mut [0u64; 1])?;
     sizes::check_flows(file, sizes::greater(least, 13))
 }
 
 // Questions 4 to 14.
-fn check_functions(file: &[u8]) -> Answer
+fn check_functions(file: &[u8]) -> Result<(), Refusal>
     requires { (36 ≤ length file.now) × (header_ok file.now ≡ true) × (records_ok file.now ≡ true) }
     ensures exact { says result ≡ first_refusal (from_four file.now) }
     ensures small { Small result }
 {
     let functions = function_count(file);
-    if let Found::At(f, item) = check_shape::first_function(file, functions) {
-        return Answer::Refused(Refusal {
+    if let Some(Found { place, item }) = check_shape::first_function(file, functions) {
+        return Err(Refusal {
             question: 4,
-            place: 1 + f,
+            place: 1 + place,
             item,
         });
     }
     if !check_header::sum_ok(file, functions) {
-        return Answer::Refused(Refusal {
-            question: 5,
-            place: 0,
-            item: 0,
-        });
+        return Err(Refusal::whole(5));
     }
     if !check_header::main_ok(file) {
-        return Answer::Refused(Refusal {
-            question: 6,
+        return Err(Refusal {
             place: 1,
-            item: 0,
+            ..Refusal::whole(6)
         });
     }
     check_parts(file)
 }
 
 // Whether the file passes questions 1 to 14; else the first question that it fails, with its place and item.
-pub fn check(file: &[u8]) -> Answer
+pub fn check(file: &[u8]) -> Result<(), Refusal>
     ensures exact { says result ≡ check_of file.now }
     ensures small { Small result }
 {
     let len = file.len();
     if len % 12 != 0 {
-        return Answer::Refused(Refusal {
-            question: 1,
-            place: 0,
-            item: 0,
-        });
+        return Err(Refusal::whole(1));
     }
     if len < SHORTEST_FILE {
-        return Answer::Refused(Refusal {
-            question: 1,
-            place: 0,
-            item: 0,
-        });
+        return Err(Refusal::whole(1));
     }
     if !check_header::header_ok(file) {
-        return Answer::Refused(Refusal {
-            question: 2,
-            place: 0,
-            item: 0,
-        });
+        return Err(Refusal::whole(2));
     }
     if !check_header::records_ok(file) {
-        return Answer::Refused(Refusal {
-            question: 3,
-            place: 0,
-            item: 0,
-        });
+        return Err(Refusal::whole(3));
     }
     check_functions(file)
 }

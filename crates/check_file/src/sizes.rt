@@ -3,12 +3,12 @@
 // The compiler puts the arrays of a function that it inlines into the caller's frame, so those with large arrays are never inlined. They also
 // call themselves k times; k is 0 for every file of up to 65,535 bytes, and none longer than 50,700 comes here.
 ghost use Rattle.std.specs.Prelude.{◌≡◌, ◌⊎◌, ◌+◌, ◌*◌, ◌≤◌, ◌<◌, length};
-ghost use Rattle.records.specs.Fields.{functions};
+ghost use Rattle.records.specs.Format.{most_nodes};
 ghost use Rattle.records.specs.Parts.{Laid};
 ghost use Rattle.check_file.specs.Answers.{Small};
-ghost use Rattle.check_file.specs.Stages.{FloorIs, PartsWithin, AnswersTo, AtFlows};
+ghost use Rattle.check_file.specs.Stages.{FloorIs, PartsWithin, TableRoom, AnswersTo, AtFlows};
 
-use crate::Answer;
+use crate::Refusal;
 use check_rest::lower;
 use records::format::{
     MIDDLE_NODES, MOST_NODES, RECORD, SHORT_NODES, TINY_NODES, TOO_LONG, TYPE_UNSET,
@@ -30,9 +30,8 @@ fn parts_floor(file: &[u8], codes: &mut [u8], reads: &mut [u64], sets: &mut [u64
 {
     let functions = function_count(file);
     let mut least = 15;
-    let mut f = 0;
     let mut start = 1 + functions;
-    while f < functions {
+    for f in 0..functions {
         let n = count_of(file, f);
         let a = 12 * start;
         let e = 12 * (start + n);
@@ -42,66 +41,30 @@ fn parts_floor(file: &[u8], codes: &mut [u8], reads: &mut [u64], sets: &mut [u64
         }
         least = lower(own, least);
         start += n;
-        f += 1;
     }
     least
 }
 
-// Files of up to 32 nodes.
-fn tiny_floor(file: &[u8]) -> u8
-    requires { Laid file.now × (length file.now ≤ 12 * (1 + functions file.now + 32)) }
+// The same with room for N nodes a part.
+fn floor_within<const N: usize>(file: &[u8]) -> u8
+    requires { Laid file.now × PartsWithin file.now N × (N ≤ most_nodes) }
     ensures { FloorIs file.now result }
 {
-    let mut types = [TYPE_UNSET; TINY_NODES];
-    let mut reads = [0u64; TINY_NODES];
-    let mut sets = [0u64; TINY_NODES];
+    let mut types = [TYPE_UNSET; N];
+    let mut reads = [0u64; N];
+    let mut sets = [0u64; N];
     parts_floor(file, &mut types, &mut reads, &mut sets)
 }
 
-// Files of up to 256 nodes.
+// The same with the arrays in a frame of its own.
 #[inline(never)]
-fn short_floor(file: &[u8], k: usize) -> u8
-    requires { Laid file.now × (length file.now ≤ 12 * (1 + functions file.now + 256)) }
+fn floor_apart<const N: usize>(file: &[u8], k: usize) -> u8
+    requires { Laid file.now × PartsWithin file.now N × (N ≤ most_nodes) }
     ensures { FloorIs file.now result }
 {
-    let mut types = [TYPE_UNSET; SHORT_NODES];
-    let mut reads = [0u64; SHORT_NODES];
-    let mut sets = [0u64; SHORT_NODES];
-    let own = parts_floor(file, &mut types, &mut reads, &mut sets);
+    let own = floor_within::<N>(file);
     if 0 < k {
-        return lower(own, short_floor(file, k - 1));
-    }
-    own
-}
-
-// Files of up to 1,024 nodes.
-#[inline(never)]
-fn middle_floor(file: &[u8], k: usize) -> u8
-    requires { Laid file.now × (length file.now ≤ 12 * (1 + functions file.now + 1024)) }
-    ensures { FloorIs file.now result }
-{
-    let mut types = [TYPE_UNSET; MIDDLE_NODES];
-    let mut reads = [0u64; MIDDLE_NODES];
-    let mut sets = [0u64; MIDDLE_NODES];
-    let own = parts_floor(file, &mut types, &mut reads, &mut sets);
-    if 0 < k {
-        return lower(own, middle_floor(file, k - 1));
-    }
-    own
-}
-
-// All files.
-#[inline(never)]
-fn long_floor(file: &[u8], k: usize) -> u8
-    requires { Laid file.now }
-    ensures { FloorIs file.now result }
-{
-    let mut types = [TYPE_UNSET; MOST_NODES];
-    let mut reads = [0u64; MOST_NODES];
-    let mut sets = [0u64; MOST_NODES];
-    let own = parts_floor(file, &mut types, &mut reads, &mut sets);
-    if 0 < k {
-        return lower(own, long_floor(file, k - 1));
+        return lower(own, floor_apart::<N>(file, k - 1));
     }
     own
 }
@@ -113,82 +76,52 @@ pub fn file_floor(file: &[u8]) -> u8
 {
     let functions = function_count(file);
     if file.len() <= RECORD * (1 + functions + TINY_NODES) {
-        return tiny_floor(file);
+        return floor_within::<TINY_NODES>(file);
     }
     let k = file.len() / TOO_LONG;
     if file.len() <= RECORD * (1 + functions + SHORT_NODES) {
-        return short_floor(file, k);
+        return floor_apart::<SHORT_NODES>(file, k);
     }
     if file.len() <= RECORD * (1 + functions + MIDDLE_NODES) {
-        return middle_floor(file, k);
+        return floor_apart::<MIDDLE_NODES>(file, k);
     }
-    long_floor(file, k)
+    floor_apart::<MOST_NODES>(file, k)
 }
 
-// The first of two answers where it refuses, else the second.
-fn either(first: Answer, second: Answer) -> Answer
-    ensures { (result ≡ first) ⊎ (result ≡ second) }
-{
-    match first {
-        Answer::Accepted => second,
-        Answer::Refused(refusal) => Answer::Refused(refusal),
-    }
-}
+// The words of a table for the summaries of a short part.
+const SHORT_TABLE: usize = 5 * SHORT_NODES;
 
-// Questions 13 and 14, from q on, put to files of up to 256 nodes.
+// Of a middling part.
+const MIDDLE_TABLE: usize = 5 * MIDDLE_NODES;
+
+// Of any part.
+const LONG_TABLE: usize = 5 * MOST_NODES;
+
+// Questions 13 and 14, from q on, with a table of N words in a frame of its own.
 #[inline(never)]
-fn short_flows(file: &[u8], q: u8, k: usize) -> Answer
-    requires { AtFlows file.now q × (length file.now ≤ 12 * (1 + functions file.now + 256)) }
+fn flows_apart<const N: usize>(file: &[u8], q: u8, k: usize) -> Result<(), Refusal>
+    requires { AtFlows file.now q × TableRoom file.now N × (N ≤ 5 * most_nodes) }
     ensures { AnswersTo file.now 15 result × Small result }
 {
-    let mut table = [0u64; 5 * SHORT_NODES];
-    let own = crate::ask(file, q, 15, &mut table);
+    let own = crate::ask(file, q, 15, &mut [0u64; N]);
     if 0 < k {
-        return either(short_flows(file, q, k - 1), own);
-    }
-    own
-}
-
-// Put to files of up to 1,024 nodes.
-#[inline(never)]
-fn middle_flows(file: &[u8], q: u8, k: usize) -> Answer
-    requires { AtFlows file.now q × (length file.now ≤ 12 * (1 + functions file.now + 1024)) }
-    ensures { AnswersTo file.now 15 result × Small result }
-{
-    let mut table = [0u64; 5 * MIDDLE_NODES];
-    let own = crate::ask(file, q, 15, &mut table);
-    if 0 < k {
-        return either(middle_flows(file, q, k - 1), own);
-    }
-    own
-}
-
-// Put to all files.
-#[inline(never)]
-fn long_flows(file: &[u8], q: u8, k: usize) -> Answer
-    requires { AtFlows file.now q }
-    ensures { AnswersTo file.now 15 result × Small result }
-{
-    let mut table = [0u64; 5 * MOST_NODES];
-    let own = crate::ask(file, q, 15, &mut table);
-    if 0 < k {
-        return either(long_flows(file, q, k - 1), own);
+        return flows_apart::<N>(file, q, k - 1).and(own);
     }
     own
 }
 
 // Questions 13 and 14, from q on, where all before pass.
-pub fn check_flows(file: &[u8], q: u8) -> Answer
+pub fn check_flows(file: &[u8], q: u8) -> Result<(), Refusal>
     requires { AtFlows file.now q }
     ensures { AnswersTo file.now 15 result × Small result }
 {
     let functions = function_count(file);
     let k = file.len() / TOO_LONG;
     if file.len() <= RECORD * (1 + functions + SHORT_NODES) {
-        return short_flows(file, q, k);
+        return flows_apart::<SHORT_TABLE>(file, q, k);
     }
     if file.len() <= RECORD * (1 + functions + MIDDLE_NODES) {
-        return middle_flows(file, q, k);
+        return flows_apart::<MIDDLE_TABLE>(file, q, k);
     }
-    long_flows(file, q, k)
+    flows_apart::<LONG_TABLE>(file, q, k)
 }

@@ -1,4 +1,5 @@
 -- One step of a walk over the reads of an expression.
+use Rattle.std.specs.Prelude.{Option, None}
 use mathlib.Core.Path.{◌≡◌, refl, ◌∙◌}
 use mathlib.Core.Bool.{Bool, true, false, not, ◌&&◌}
 use mathlib.Core.List.{List, ◌∷◌}
@@ -6,17 +7,17 @@ use Prim.Native.Nat.{ℕ, suc, ◌+◌, ◌-◌, ◌≤◌, ◌<◌}
 use native.Mathlib.Omega.{arith}
 use native.Mathlib.Numerals.{add-one}
 use lib.Dec.{eqb}
+use Rattle.records.specs.Search.{At}
 use Rattle.varset.specs.Lowest.{pick}
 use Rattle.varset.specs.Sets.{Set}
 use Rattle.records.specs.Fields.{kind_at, b_at, size_at}
 use Rattle.records.specs.declared.Found.{Found}
-use Rattle.records.specs.declared.Found.TheVariants.{At, Nothing}
 use Rattle.spec_language.specs.Statements.{Read, read, reads_from, reads_of}
 use Rattle.spec_language.specs.Flow.{missing}
 
 module _ (t : List ℕ) (d : Set) (e : ℕ) where
   -- what the nodes from i to e read that is not in d
-  abbrev rest : ℕ → Found
+  abbrev rest : ℕ → Option Found
   rest i = missing (reads_from t (e + 1 - i) i) d
 
   pub rest_all : (i : ℕ) → size_at t e ≤ e + 1 → i ≡ e + 1 - size_at t e → rest i ≡ missing (reads_of t e) d
@@ -31,7 +32,7 @@ module _ (t : List ℕ) (d : Set) (e : ℕ) where
       let z : e + 1 - i ≡ suc (e + 1 - suc i) = omega arith in
       rw (z, add-one i) (by_kind (eqb (kind_at t i) 2) (reads_from t (e + 1 - suc i) (suc i)))
     where
-      swap : (h : Bool) (a b : Found) → pick h a b ≡ pick (not h) b a
+      swap : (h : Bool) (a b : Option Found) → pick h a b ≡ pick (not h) b a
       swap true a b = refl
       swap false a b = refl
 
@@ -45,6 +46,6 @@ module _ (t : List ℕ) (d : Set) (e : ℕ) where
   pub rest_on : (i : ℕ) (b : Bool) → i ≤ e → b ≡ eqb (kind_at t i) 2 && not (d (b_at t i)) → b ≡ false → rest i ≡ rest (i + 1)
   rest_on i b l q z = step i l ∙ rw (← q, z)
 
-  pub rest_none : (i : ℕ) → e < i → rest i ≡ Nothing
+  pub rest_none : (i : ℕ) → e < i → rest i ≡ None
   unfolding reads_from missing
   rest_none i l = let z : e + 1 - i ≡ 0 = omega arith in rw z

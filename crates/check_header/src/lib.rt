@@ -23,6 +23,7 @@ pub fn is_cut(file: &[u8]) -> bool
 }
 
 // Whether the header is right.
+#[tactic(auto, using(spec_language::proofs::Editions::ending_is), unfolding(spec_language::specs::Records::header_ok, spec_language::specs::Records::within))]
 pub fn header_ok(file: &[u8]) -> bool
     requires { 12 ≤ length file.now }
     ensures { result ≡ header_ok file.now }
@@ -36,6 +37,7 @@ pub fn header_ok(file: &[u8]) -> bool
 }
 
 // Whether the file has as many records as its header says.
+#[tactic(auto, unfolding(spec_language::specs::Records::records_ok))]
 pub fn records_ok(file: &[u8]) -> bool
     requires { 12 ≤ length file.now }
     ensures { result ≡ records_ok file.now }
@@ -46,20 +48,20 @@ pub fn records_ok(file: &[u8]) -> bool
 }
 
 // Whether the part counts of the functions sum to the node count.
+#[tactic(auto, unfolding(records::specs::Parts::sum_of))]
 pub fn sum_ok(file: &[u8], functions: usize) -> bool
     requires { (12 * (1 + functions) ≤ length file.now) × (functions ≤ most_functions) }
     ensures { result ≡ eqb (sum_of file.now functions) (nodes file.now) }
 {
     let mut sum = 0;
-    let mut f = 0;
-    while f < functions {
+    for f in 0..functions {
         sum += count_of(file, f);
-        f += 1;
     }
     sum == node_count(file)
 }
 
 // Whether function 0 takes nothing and gives an int.
+#[tactic(auto, unfolding(spec_language::specs::Records::main_ok))]
 pub fn main_ok(file: &[u8]) -> bool
     requires { 24 ≤ length file.now }
     ensures { result ≡ main_ok file.now }

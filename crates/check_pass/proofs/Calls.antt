@@ -2,12 +2,10 @@
 use mathlib.Core.Path.{◌≡◌, refl, sym, ◌∙◌}
 use mathlib.Core.Bool.{Bool, true, ◌&&◌}
 use mathlib.Core.List.{List}
-use mathlib.Core.Logic.{inl}
 use Prim.Native.Nat.{ℕ, zero, suc, ◌+◌, ◌*◌, ◌-◌, ◌≤◌, ◌<◌}
 use native.Mathlib.Omega.{arith}
 use native.Mathlib.Nat.{not-suc-le-zero}
 use lib.Dec.{ltb}
-use lib.ListN.{get_or}
 use borrow.Author.Tests.{ltb-true}
 use Rattle.varset.specs.Sets.{Set, has, none, either, Sub}
 use Rattle.records.proofs.Children.{length-walk}
@@ -21,10 +19,11 @@ use Rattle.spec_language.specs.Types.{param_type, types_of, type_at, wants_of, w
 use Rattle.spec_language.specs.Nodes.{total, outside}
 use Rattle.spec_language.proofs.Trees.{statement_rest}
 use Rattle.spec_language.proofs.Typings as typings
+use Rattle.check_effects.specs.declared.Effect.{Effect}
 use Rattle.check_effects.specs.Effects.{statement_code, Covers}
 use Rattle.check_effects.proofs.EffectParts.{nop_means}
 use Rattle.check_effects.proofs.Covering.{AllCovered, covers_more, node_covered}
-use Rattle.check_pass.specs.Judged.{Kid, Kids, Judged, Filled}
+use Rattle.check_pass.specs.Judged.{Kid, Kids, Judged}
 use Rattle.check_pass.proofs.Kids.{positive, kid_typed, suits_same}
 
 param_small : (s : List ℕ) (f k : ℕ) → param_type s f k < statement_code
@@ -73,13 +72,13 @@ module _ (s : List ℕ) (f : ℕ) (t : List ℕ) (n i : ℕ) where
   step_covered d zero c h k ks = absurd (not-suc-le-zero h)
   step_covered d (suc j) c h k ks = let e : suc j - 1 ≡ j = omega arith in (k, rw e at ks)
 
-  pub left_next : {d : Set} {codes reads sets : List ℕ} {j c sum r r' size next callee want : ℕ} → kind_at t i ≡ 5 → callee ≡ b_at t i → Filled s f t n d i codes reads sets → 0 < j → Left j c sum r
-      → want ≡ param_type s callee (j - 1) → get_or codes c 0 ≡ want → has r' ≡ either (has r) (has (get_or reads c 0)) → size ≡ size_at t c → size < 4294967296 → next ≡ c - size
+  pub left_next : {d : Set} {v : Effect} {j c sum r r' size next callee want : ℕ} → kind_at t i ≡ 5 → callee ≡ b_at t i → (c < i → Judged s f t n d c v) → 0 < j → Left j c sum r
+      → want ≡ param_type s callee (j - 1) → v.code ≡ want → has r' ≡ either (has r) (has v.reads.0) → size ≡ size_at t c → size < 4294967296 → next ≡ c - size
       → Left (j - 1) next (sum + size) r'
   unfolding want_at wants_of wants_expression either
-  left_next {d} {codes} {reads} {sets} {j} {c} {sum} {r} {r'} {size} {next} {callee} {want} e b filled h l w g v x y q =
+  left_next {d} {v} {j} {c} {sum} {r} {r'} {size} {next} {callee} {want} e b jc h l w g o x y q =
       let q' : next ≡ c - size_at t c = rw (← x) q in
-      let small : get_or codes c 0 < statement_code = rw (g, w) (param_small s callee (j - 1)) in
+      let small : v.code < statement_code = rw (g, w) (param_small s callee (j - 1)) in
       record {
         few = omega (arith, l.few);
         bound = omega (arith, l.bound);
@@ -87,21 +86,21 @@ module _ (s : List ℕ) (f : ℕ) (t : List ℕ) (n i : ℕ) where
         low = λ p. omega (arith, l.low p);
         kids =
             λ p ks. l.kids p (step_kids j c h
-            (kid_typed s f t n i (j - 1) c (get_or codes c 0) want (rw e) (rw (e, w, b)) (filled.at c (l.low p)) small (suits_same want (get_or codes c 0) (sym g)))
+            (kid_typed s f t n i (j - 1) c want (rw e) (rw (e, w, b)) (jc (l.low p)) small (suits_same want v.code (sym g)))
             (rw q' at ks));
         reads =
-            λ p k m ks. l.reads p k (λ x y. m x (rw v (or_more (has r x) _ y))) (step_covered k j c h
-            (covers_more t c ((filled.at c (l.low p)).covers small) (λ x y. m x (rw v (or_last (has r x) _ y))))
+            λ p k m ks. l.reads p k (λ x y. m x (rw o (or_more (has r x) _ y))) (step_covered k j c h
+            (covers_more t c ((jc (l.low p)).covers small) (λ x y. m x (rw o (or_last (has r x) _ y))))
             (rw q' at ks));
       }
 
-  pub call_judged : {d : Set} {j c sum code r w callee : ℕ} (fit : Bool) → kind_at t i ≡ 5 → callee ≡ b_at t i → code ≡ result_of s callee → j ≤ 0 → Left j c sum r → (ltb code statement_code && fit) ≡ true
-      → (fit ≡ true → (size_at t i ≡ 1 + sum) × (sum ≤ i)) → has w ≡ none → Judged s f t n d i code r w
+  pub call_judged : {d : Set} {v : Effect} {j c sum callee : ℕ} (fit : Bool) → kind_at t i ≡ 5 → callee ≡ b_at t i → v.code ≡ result_of s callee → j ≤ 0 → Left j c sum v.reads.0 → (ltb v.code statement_code && fit) ≡ true
+      → (fit ≡ true → (size_at t i ≡ 1 + sum) × (sum ≤ i)) → has v.sets.0 ≡ none → Judged s f t n d i v
   unfolding total walk is_expression type_at types_of outside uses_variable
-  call_judged {d} {j} {c} {sum} {code} {r} {w} {callee} fit e b v o l₀ z g h =
-      let fits = g (and_right (ltb code statement_code) fit z) in
+  call_judged {d} {v} {j} {c} {sum} {callee} fit e b v' o l₀ z g h =
+      let fits = g (and_right (ltb v.code statement_code) fit z) in
       let l = l₁ in
-      let small = ltb-true code statement_code (and_left (ltb code statement_code) fit z) in
+      let small = ltb-true v.code statement_code (and_left (ltb v.code statement_code) fit z) in
       let whole : total (size_at t) (children t i) ≡ sum + 0 = l.whole in
       let size : size_at t i ≡ 1 + total (size_at t) (children t i) = omega (arith, fits.0) in
       let inside : total (size_at t) (children t i) ≤ i = omega (arith, fits.1) in
@@ -111,18 +110,18 @@ module _ (s : List ℕ) (f : ℕ) (t : List ℕ) (n i : ℕ) where
         inside = inside;
         kids = all.0;
         scoped = rw e;
-        sort = rw (e, and_left (ltb code statement_code) fit z);
-        type = λ y. rw (e, v, b);
-        covers = λ y. node_covered t (has r) i size inside (λ k. absurd (omega arith)) all.1;
+        sort = rw (e, and_left (ltb v.code statement_code) fit z);
+        type = λ y. rw (e, v', b);
+        covers = λ y. node_covered t (has v.reads.0) i size inside (λ k. absurd (omega arith)) all.1;
         means = rw (statement_rest t i (rw e)) (nop_means h (λ y. omega arith));
       }
     where
-      l₁ : Left 0 c sum r
+      l₁ : Left 0 c sum v.reads.0
       l₁ = let q : j ≡ 0 = omega arith in rw q at l₀
 
-      args : (m : ℕ) → a_at t i ≡ m → size_at t i ≡ 1 + total (size_at t) (children t i) → Kids s f t n i (children t i) × AllCovered t (has r) (children t i)
+      args : (m : ℕ) → a_at t i ≡ m → size_at t i ≡ 1 + total (size_at t) (children t i) → Kids s f t n i (children t i) × AllCovered t (has v.reads.0) (children t i)
       args zero q k = rw (children_are e, q) (tt, tt)
       args (suc m) q k =
           let z : size_at t i ≡ 1 + (size_at t (i - 1) + total (size_at t) (walk (size_at t) m (i - 1 - size_at t (i - 1)))) = rw (children_are e, q) at k in
           let p = positive t i (i - 1) _ refl z in
-          (l₁.kids p tt, l₁.reads p (has r) (λ x y. y) tt)
+          (l₁.kids p tt, l₁.reads p (has v.reads.0) (λ x y. y) tt)

@@ -6,7 +6,7 @@ use Prim.Native.Nat.{ℕ, zero, suc, ◌+◌, ◌-◌, ◌≤◌, ◌<◌}
 use native.Mathlib.Omega.{arith}
 use native.Mathlib.Decide.{dec_lt}
 use lib.Dec.{eqb, leb}
-use lib.ListN.{get_or, set, length, length-set}
+use lib.ListN.{set, length}
 use lib.Seq.{get_or-set_same, get_or-set_other}
 use borrow.Author.Tests.{eqb-true, eq-eqb, le-leb, leb-true, le-ltb}
 use Rattle.varset.specs.Sets.{Set, has, none, less, Sub}
@@ -16,14 +16,15 @@ use Rattle.records.proofs.Bools.{and_left, and_right, and_both, by}
 use Rattle.spec_language.specs.Statements.{statement_at}
 use Rattle.spec_language.specs.Types.{type_at, want_at, agree}
 use Rattle.spec_language.specs.Nodes.{size_ok, wrong_child, some, misplaced, mistyped}
+use Rattle.check_effects.specs.declared.Effect.{Effect}
 use Rattle.check_effects.specs.Effects.{statement_code, return_code, Means}
 use Rattle.check_rest.specs.Sound.{Sound, SoundBefore}
 use Rattle.check_rest.proofs.Sounds.{sound_next}
 use Rattle.check_effects.proofs.EffectParts.{empty_member}
-use Rattle.check_pass.specs.Judged.{Kids, Judged, Filled}
+use Rattle.check_pass.specs.Judged.{Kids, Judged, Filled, effect_in}
 use Rattle.check_pass.specs.Passed.{Passed}
 
-judged_more : {s : List ℕ} {f : ℕ} {t : List ℕ} {n : ℕ} {d d' : Set} {k c r w : ℕ} → Sub d d' → Judged s f t n d k c r w → Judged s f t n d' k c r w
+judged_more : {s : List ℕ} {f : ℕ} {t : List ℕ} {n : ℕ} {d d' : Set} {k : ℕ} {e : Effect} → Sub d d' → Judged s f t n d k e → Judged s f t n d' k e
 judged_more h j =
     record {
       size = j.size;
@@ -43,16 +44,12 @@ module _ (s : List ℕ) (f : ℕ) (t : List ℕ) (n : ℕ) (d : Set) (i : ℕ) (
   pub filled_more : (d' : Set) → Sub d d' → Filled s f t n d i codes reads sets → Filled s f t n d' i codes reads sets
   filled_more d' h g = record { at = λ k l. judged_more h (g.at k l) }
 
-  pub filled_next : {c r w : ℕ} → Filled s f t n d i codes reads sets → i < length codes → i < length reads → i < length sets → Judged s f t n d i c r w
-      → Filled s f t n d (i + 1) (set codes i c) (set reads i r) (set sets i w)
-  filled_next {c} {r} {w} g a b e m = record { at = λ k l. go k l (dec_lt k i) }
+  pub filled_next : {e : Effect} → Filled s f t n d i codes reads sets → i < length codes → i < length reads → i < length sets → Judged s f t n d i e → Filled s f t n d (i + 1) (set codes i e.code) (set reads i e.reads.0) (set sets i e.sets.0)
+  filled_next {e} g a b c m = record { at = λ k l. go k l (dec_lt k i) }
     where
-      go : (k : ℕ) → k < i + 1 → Dec (k < i) → Judged s f t n d k (get_or (set codes i c) k 0) (get_or (set reads i r) k 0) (get_or (set sets i w) k 0)
-      go k l (yes h) =
-          rw (get_or-set_other codes i k c 0 (omega arith), get_or-set_other reads i k r 0 (omega arith), get_or-set_other sets i k w 0 (omega arith)) (g.at k h)
-      go k l (no h) =
-          let q : k ≡ i = omega arith in
-          rw (q, get_or-set_same codes i c 0 a, get_or-set_same reads i r 0 b, get_or-set_same sets i w 0 e) m
+      go : (k : ℕ) → k < i + 1 → Dec (k < i) → Judged s f t n d k (effect_in (set codes i e.code) (set reads i e.reads.0) (set sets i e.sets.0) k)
+      go k l (yes h) = rw (get_or-set_other codes i k e.code 0 (omega arith), get_or-set_other reads i k e.reads.0 0 (omega arith), get_or-set_other sets i k e.sets.0 0 (omega arith)) (g.at k h)
+      go k l (no h) = let q : k ≡ i = omega arith in rw (q, get_or-set_same codes i e.code 0 a, get_or-set_same reads i e.reads.0 0 b, get_or-set_same sets i e.sets.0 0 c) m
 
 -- ---- the tests of a part from those of its nodes
 
@@ -73,14 +70,14 @@ module _ (s : List ℕ) (f : ℕ) (t : List ℕ) (n : ℕ) where
   agree_all i (c ∷ cs) k = rw (k.0.type, agree_all i cs k.1)
 
   -- a node before the last passes
-  pub judged_sound : {d : Set} {i code r w : ℕ} → i < n → Judged s f t n d i code r w → (1 + i ≡ n → (size_at t i ≡ n) × (statement_code ≤ code)) → Sound s f t n i 12
+  pub judged_sound : {d : Set} {i : ℕ} {v : Effect} → i < n → Judged s f t n d i v → (1 + i ≡ n → (size_at t i ≡ n) × (statement_code ≤ v.code)) → Sound s f t n i 12
   unfolding size_ok
-  judged_sound {d} {i} {code} {r} {w} l j last =
+  judged_sound {d} {i} {v} l j last =
       record {
         sized =
             λ h. rw (eq-eqb (size_at t i) _ j.size, le-leb _ i j.inside)
             (by (eqb (1 + i) n) (λ b. rw (b, eq-eqb (size_at t i) n (last (eqb-true (1 + i) n b)).0)) (λ b. rw b));
-        body = λ h e. rw (j.sort, le-ltb code statement_code (last e).1);
+        body = λ h e. rw (j.sort, le-ltb v.code statement_code (last e).1);
         placed = λ h k m. wrong_none i k (children t i) j.kids;
         scoped = λ h. j.scoped;
       }
@@ -105,15 +102,15 @@ module _ (s : List ℕ) (f : ℕ) (t : List ℕ) (n : ℕ) where
         returning = λ k. absurd (omega arith);
       }
 
-  pub all-below : {d : Set} {codes reads sets : List ℕ} {i₀ last size code r w q : ℕ} (late : ℕ) (begun : Set) (e : Bool) → 1 ≤ n → n ≤ i₀ → Filled s f t n d i₀ codes reads sets → last ≡ n - 1
-      → (last < i₀ → Judged s f t n d last code r w) → size ≡ size_at t last → has late ≡ less (has r) begun → (e ≡ true → has late ≡ none)
-      → (eqb size n && leb statement_code code) ≡ true → (13 < q → e ≡ true) × (14 < q → eqb code return_code ≡ true) × (13 ≤ q) × (q ≤ 15) → Passed s f t n begun q
+  pub all-below : {d : Set} {codes reads sets : List ℕ} {b : Effect} {i₀ last size q : ℕ} (late : ℕ) (begun : Set) (e : Bool) → 1 ≤ n → n ≤ i₀ → Filled s f t n d i₀ codes reads sets → last ≡ n - 1
+      → (last < i₀ → Judged s f t n d last b) → size ≡ size_at t last → has late ≡ less (has b.reads.0) begun → (e ≡ true → has late ≡ none)
+      → (eqb size n && leb statement_code b.code) ≡ true → (13 < q → e ≡ true) × (14 < q → eqb b.code return_code ≡ true) × (13 ≤ q) × (q ≤ 15) → Passed s f t n begun q
   unfolding mistyped less
-  all-below {d} {codes} {reads} {sets} {i₀} {last} {size} {code} {r} {w} {q} late begun e one all g₀ p jb x y v whole z =
-      let full : size ≡ n = eqb-true size n (and_left (eqb size n) (leb statement_code code) whole) in
-      let statement : statement_code ≤ code = leb-true statement_code code (and_right (eqb size n) (leb statement_code code) whole) in
+  all-below {d} {codes} {reads} {sets} {b} {i₀} {last} {size} {q} late begun e one all g₀ p jb x y v whole z =
+      let full : size ≡ n = eqb-true size n (and_left (eqb size n) (leb statement_code b.code) whole) in
+      let statement : statement_code ≤ b.code = leb-true statement_code b.code (and_right (eqb size n) (leb statement_code b.code) whole) in
       let j = jb (omega arith) in
-      let m : Means (statement_at t (n - 1)) d code r w = rw p at j.means in
+      let m : Means (statement_at t (n - 1)) d b = rw p at j.means in
       let own : Sound s f t n last 12 = judged_sound (omega arith) j (λ h. (sym x ∙ full, statement)) in
       let end : last + 1 ≡ n = omega arith in
       let others : SoundBefore s f t n last 12 = filled_sound (omega arith) (omega arith) g₀ in
@@ -125,9 +122,6 @@ module _ (s : List ℕ) (f : ℕ) (t : List ℕ) (n : ℕ) where
         placed = λ h. before.placed (omega arith);
         scoped = λ h. before.scoped (omega arith);
         typed = λ h i l. rw (agree_all i (children t i) (g₀.at i (omega arith)).kids);
-        reading = λ h. m.reading begun (λ k l. by (begun k) (λ b. b) (λ b. empty_member k (rw (← v (z.0 h), y) (and_both (has r k) _ l (rw b)))));
-        returning = λ h. m.returning (eqb-true code return_code (z.1 h));
+        reading = λ h. m.reading begun (λ k l. by (begun k) (λ y. y) (λ o. empty_member k (rw (← v (z.0 h), y) (and_both (has b.reads.0 k) _ l (rw o)))));
+        returning = λ h. m.returning (eqb-true b.code return_code (z.1 h));
       }
-
-pub kept_length : (xs : List ℕ) (i v : ℕ) {ys : List ℕ} {m : ℕ} → ys ≡ set xs i v → length xs ≡ m → length ys ≡ m
-kept_length xs i v e h = rw e (length-set xs i v ∙ h)

@@ -1,5 +1,7 @@
 -- What the pass over a part shows of a node, and what it needs to go on.
 use Rattle.std.specs.Prelude.{◌≡◌, true, false, List, [], ◌∷◌, ◌⊎◌, ℕ, ◌+◌, ◌*◌, ◌≤◌, ◌<◌, ltb, length, get_or}
+use Rattle.std.specs.Coded.{×_prop, Unit-prop}
+use Rattle.std.proofs.Props.{props}
 use Rattle.varset.specs.Sets.{Set, has}
 use Rattle.records.specs.Fields.{functions, kind_at, a_at, b_at, size_at}
 use Rattle.records.specs.Parts.{Laid}
@@ -11,6 +13,7 @@ use Rattle.spec_language.specs.Types.{type_at, want_at, suits}
 use Rattle.spec_language.specs.Nodes.{total, outside}
 use Rattle.spec_language.specs.Known.{CallsKnown}
 use Rattle.check_scopes.specs.Counts.{Named, Decls}
+use Rattle.check_effects.specs.declared.Effect.{Effect}
 use Rattle.check_effects.specs.Effects.{statement_code, return_code, Covers, Means}
 
 -- child k of node i is of the sort and of the type that the node wants
@@ -23,20 +26,31 @@ abbrev pub Kids : List ℕ → ℕ → List ℕ → ℕ → ℕ → List ℕ →
 Kids s f t n i [] = Unit {0}
 Kids s f t n i (c ∷ cs) = Kid s f t n i (length cs) c × Kids s f t n i cs
 
--- node i passes; its code is an expression's type or a statement's code, and an expression reads no other variables than `reads`
-pub record Judged (s : List ℕ) (f : ℕ) (t : List ℕ) (n : ℕ) (d : Set) (i code reads sets : ℕ) : Type 0 where
+-- there is one proof of it at most, as a ghost field wants
+pub kids_prop : (s : List ℕ) (f : ℕ) (t : List ℕ) (n i : ℕ) (cs : List ℕ) → IsProp (Kids s f t n i cs)
+kids_prop s f t n i [] = Unit-prop
+kids_prop s f t n i (c ∷ cs) = ×_prop (hlevel props) (kids_prop s f t n i cs)
+
+pub ruleset one_proof = (kids_prop, props)
+
+-- node i passes; its code is an expression's type or a statement's code, and an expression reads no other variables than its effect
+pub record Judged (s : List ℕ) (f : ℕ) (t : List ℕ) (n : ℕ) (d : Set) (i : ℕ) (e : Effect) : Type 0 where
   pub size : size_at t i ≡ 1 + total (size_at t) (children t i)
   pub inside : total (size_at t) (children t i) ≤ i
   pub kids : Kids s f t n i (children t i)
   pub scoped : outside s f t n i ≡ false
-  pub sort : is_expression (kind_at t i) ≡ ltb code statement_code
-  pub type : code < statement_code → type_at s f t n i ≡ code
-  pub covers : code < statement_code → Covers (reads_of t i) (has reads)
-  pub means : Means (statement_at t i) d code reads sets
+  pub sort : is_expression (kind_at t i) ≡ ltb e.code statement_code
+  pub type : e.code < statement_code → type_at s f t n i ≡ e.code
+  pub covers : e.code < statement_code → Covers (reads_of t i) (has e.reads.0)
+  pub means : Means (statement_at t i) d e
+
+-- the effect of node k in the working arrays
+abbrev pub effect_in : List ℕ → List ℕ → List ℕ → ℕ → Effect
+effect_in codes reads sets k = record { code = get_or codes k 0; reads = record { 0 = get_or reads k 0 }; sets = record { 0 = get_or sets k 0 } }
 
 -- what the working arrays say of the first i nodes of a part
 pub record Filled (s : List ℕ) (f : ℕ) (t : List ℕ) (n : ℕ) (d : Set) (i : ℕ) (codes reads sets : List ℕ) : Type 0 where
-  pub at : (k : ℕ) → k < i → Judged s f t n d k (get_or codes k 0) (get_or reads k 0) (get_or sets k 0)
+  pub at : (k : ℕ) → k < i → Judged s f t n d k (effect_in codes reads sets k)
 
 -- what is known of a part before the pass
 pub record PartFacts (s : List ℕ) (f : ℕ) (t : List ℕ) (n : ℕ) (decls : List ℕ) : Type 0 where

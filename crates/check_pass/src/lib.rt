@@ -13,121 +13,79 @@ ghost use Rattle.records.specs.Parts.{Laid};
 ghost use Rattle.check_pass.specs.Passed.{Passed, ClearBelow};
 ghost use Rattle.check_pass.specs.Judged.{Judged, PartFacts, Own, AtNode};
 
-use check_effects::{Effect, RETURN, STATEMENT, plain};
+use check_effects::{Effect, FAILING, RETURN, STATEMENT, plain};
+use nodes::Node;
 use records::format::{TYPE_ANY, TYPE_UNSET, VARIABLE_ENTRIES};
 use records::nodes::{a_at, b_at, kind_at, size_at};
 use records::{minus, params_of, result_of, wide};
 use varset::VarSet;
 
-// A call.
-fn call_at(
-    file: &[u8],
-    f: usize,
-    part: &[u8],
-    n: usize,
-    decls: &[usize; VARIABLE_ENTRIES],
-    codes: &[u8],
-    reads: &[u64],
-    sets: &[u64],
-    seen: VarSet,
-    i: usize,
-) -> Effect
-    requires { AtNode file.now f part.now n decls.now codes.now reads.now sets.now (has seen.0) i × (kind_at part.now i ≡ 5) }
-    ensures { result.code < unset → Judged file.now f part.now n (has seen.0) i result.code result.reads.0 result.sets.0 }
-{
-    let callee = b_at(part, i) as usize;
-    let mut j = wide(a_at(part, i)) as usize;
-    let mut c = minus(i, 1);
-    let mut sum = 0;
-    let mut all = VarSet::empty();
-    while 0 < j {
-        j -= 1;
-        if codes[c] != check_types::param_type(file, callee, j) {
-            return plain(TYPE_UNSET, VarSet::empty(), VarSet::empty());
-        }
-        all = all.union(nodes::reads_of(reads, c));
-        let size = size_at(part, c);
-        sum += size;
-        c = minus(c, size);
-    }
-    let found = result_of(file, callee);
-    let passes = (found < STATEMENT) & nodes::fits(part, i, sum);
-    nodes::guard(passes, plain(found, all, VarSet::empty()))
-}
+impl Node<'_> {
+    ghost use Rattle.check_pass.specs.Nodes.{Is, Passes};
 
-// A node of one node; by kind.
-fn alone_at(
-    file: &[u8],
-    f: usize,
-    part: &[u8],
-    n: usize,
-    decls: &[usize; VARIABLE_ENTRIES],
-    codes: &[u8],
-    reads: &[u64],
-    sets: &[u64],
-    seen: VarSet,
-    i: usize,
-) -> Effect
-    requires { AtNode file.now f part.now n decls.now codes.now reads.now sets.now (has seen.0) i }
-    ensures { result.code < unset → Judged file.now f part.now n (has seen.0) i result.code result.reads.0 result.sets.0 }
-{
-    let kind = kind_at(part, i);
-    match kind {
-        0 => nodes::leaf_at(file, f, part, n, decls, codes, reads, sets, seen, i, 1),
-        1 => nodes::leaf_at(file, f, part, n, decls, codes, reads, sets, seen, i, 2),
-        2 => nodes::variable_at(file, f, part, n, decls, codes, reads, sets, seen, i),
-        5 => call_at(file, f, part, n, decls, codes, reads, sets, seen, i),
-        6 => nodes::leaf_at(
-            file, f, part, n, decls, codes, reads, sets, seen, i, STATEMENT,
-        ),
-        15 => nodes::leaf_at(file, f, part, n, decls, codes, reads, sets, seen, i, 0),
-        _ => plain(TYPE_UNSET, VarSet::empty(), VarSet::empty()),
-    }
-}
-
-// A node of any kind, by whether it is alone, which is told sooner than its kind; by kind.
-fn node_at(
-    file: &[u8],
-    f: usize,
-    part: &[u8],
-    n: usize,
-    decls: &[usize; VARIABLE_ENTRIES],
-    codes: &[u8],
-    reads: &[u64],
-    sets: &[u64],
-    seen: VarSet,
-    i: usize,
-) -> Effect
-    requires { AtNode file.now f part.now n decls.now codes.now reads.now sets.now (has seen.0) i }
-    ensures { result.code < unset → Judged file.now f part.now n (has seen.0) i result.code result.reads.0 result.sets.0 }
-{
-    if size_at(part, i) == 1 {
-        return alone_at(file, f, part, n, decls, codes, reads, sets, seen, i);
-    }
-    let kind = kind_at(part, i);
-    let t = result_of(file, f);
-    match kind {
-        3 => {
-            let t = check_types::operator_type(a_at(part, i));
-            nodes::operator_at(file, f, part, n, decls, codes, reads, sets, seen, i, 1, t)
+    // A call.
+    fn call_at(&self) -> Effect
+        requires { Is self.now 5 }
+        ensures { Passes self.now result }
+    {
+        let callee = b_at(self.part, self.index) as usize;
+        let arguments = wide(a_at(self.part, self.index)) as usize;
+        let mut c = minus(self.index, 1);
+        let mut sum = 0;
+        let mut all = VarSet::empty();
+        for j in (0..arguments).rev() {
+            let argument = self.effect_of(c);
+            if argument.code != check_types::param_type(self.file, callee, j) {
+                return FAILING;
+            }
+            all = all.union(argument.reads);
+            let size = size_at(self.part, c);
+            sum += size;
+            c = minus(c, size);
         }
-        4 => nodes::operator_at(file, f, part, n, decls, codes, reads, sets, seen, i, 2, 2),
-        5 => call_at(file, f, part, n, decls, codes, reads, sets, seen, i),
-        7 => nodes::sequence_at(file, f, part, n, decls, codes, reads, sets, seen, i),
-        8 => nodes::assign_at(file, f, part, n, decls, codes, reads, sets, seen, i),
-        9 => nodes::scope_at(file, f, part, n, decls, codes, reads, sets, seen, i),
-        10 => nodes::branches_at(file, f, part, n, decls, codes, reads, sets, seen, i),
-        11 => nodes::loop_at(file, f, part, n, decls, codes, reads, sets, seen, i),
-        12 => nodes::single_at(
-            file, f, part, n, decls, codes, reads, sets, seen, i, t, RETURN,
-        ),
-        13 => nodes::single_at(
-            file, f, part, n, decls, codes, reads, sets, seen, i, 2, STATEMENT,
-        ),
-        14 => nodes::single_at(
-            file, f, part, n, decls, codes, reads, sets, seen, i, TYPE_ANY, STATEMENT,
-        ),
-        _ => plain(TYPE_UNSET, VarSet::empty(), VarSet::empty()),
+        let found = result_of(self.file, callee);
+        let passes = (found < STATEMENT) & self.fits(sum);
+        nodes::guard(passes, plain(found, all, VarSet::empty()))
+    }
+
+    // A node of one node; by kind.
+    fn alone_at(&self) -> Effect
+        ensures { Passes self.now result }
+    {
+        let kind = kind_at(self.part, self.index);
+        match kind {
+            0 => self.leaf_at(1),
+            1 => self.leaf_at(2),
+            2 => self.variable_at(),
+            5 => self.call_at(),
+            6 => self.leaf_at(STATEMENT),
+            15 => self.leaf_at(0),
+            _ => FAILING,
+        }
+    }
+
+    // A node of any kind, by whether it is alone, which is told sooner than its kind; by kind.
+    fn effect_at(&self) -> Effect
+        ensures { Passes self.now result }
+    {
+        if size_at(self.part, self.index) == 1 {
+            return self.alone_at();
+        }
+        let kind = kind_at(self.part, self.index);
+        match kind {
+            3 => self.operator_at(1, check_types::operator_type(a_at(self.part, self.index))),
+            4 => self.operator_at(2, 2),
+            5 => self.call_at(),
+            7 => self.sequence_at(),
+            8 => self.assign_at(),
+            9 => self.scope_at(),
+            10 => self.branches_at(),
+            11 => self.loop_at(),
+            12 => self.single_at(result_of(self.file, self.function), RETURN),
+            13 => self.single_at(2, STATEMENT),
+            14 => self.single_at(TYPE_ANY, STATEMENT),
+            _ => FAILING,
+        }
     }
 }
 
@@ -141,16 +99,6 @@ fn declared(part: &[u8], i: usize, seen: VarSet) -> VarSet
         return seen;
     }
     check_effects::with_decl(part, i, seen)
-}
-
-// The effect of node i, kept in the working arrays.
-fn keep(codes: &mut [u8], reads: &mut [u64], sets: &mut [u64], i: usize, e: Effect)
-    requires { (i < length codes.old) × (i < length reads.old) × (i < length sets.old) }
-    ensures { (codes.new ≡ set codes.old i e.code) × (reads.new ≡ set reads.old i e.reads.0) × (sets.new ≡ set sets.old i e.sets.0) }
-{
-    codes[i] = e.code;
-    reads[i] = e.reads.0;
-    sets[i] = e.sets.0;
 }
 
 // The least question that may fail in a part that passes those before 13: 13 unless its reads are held, 14 unless it returns, else 15.
@@ -184,24 +132,35 @@ fn floor(
     ensures room { (length codes.new ≡ length codes.old) × (length reads.new ≡ length reads.old) × (length sets.new ≡ length sets.old) }
 {
     let mut seen = VarSet::empty();
-    let mut i = 0;
-    while i < n {
+    for i in 0..n {
         seen = declared(part, i, seen);
-        let e = node_at(file, f, part, n, decls, codes, reads, sets, seen, i);
+        let node = Node {
+            file,
+            function: f,
+            part,
+            count: n,
+            decls,
+            codes: &*codes,
+            reads: &*reads,
+            sets: &*sets,
+            seen,
+            index: i,
+        };
+        let e = node.effect_at();
         if e.code == TYPE_UNSET {
             return check_rest::floor_from(file, f, part, n, decls, i);
         }
-        keep(codes, reads, sets, i, e);
-        i += 1;
+        // Three arrays, of 17 bytes a node: one of effects, of 24, is set to zero and then filled, and a check took more instructions and time.
+        codes[i] = e.code;
+        reads[i] = e.reads.0;
+        sets[i] = e.sets.0;
     }
     let last = n - 1;
-    let body = nodes::effect_of(codes, reads, sets, last);
-    if !((size_at(part, last) == n) & (STATEMENT <= body.code)) {
+    if !((size_at(part, last) == n) & (STATEMENT <= codes[last])) {
         return check_rest::floor_from(file, f, part, n, decls, last);
     }
-    let late = body.reads;
-    let held = late.minus(begun).is_empty();
-    least(held, body.code == RETURN)
+    let held = VarSet(reads[last]).minus(begun).is_empty();
+    least(held, codes[last] == RETURN)
 }
 
 // The least question from 7 to 14 that may fail in the part of function f, of n nodes; 15 where none may.

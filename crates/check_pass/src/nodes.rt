@@ -1,287 +1,233 @@
 // A node of each kind in the pass over a part: its effect, or that it is not known to pass.
-ghost use Rattle.std.specs.Prelude.{◌≡◌, true, List, ℕ, ◌+◌, ◌*◌, ◌-◌, ◌≤◌, ◌<◌, length, get_or};
-ghost use Rattle.spec_language.specs.Types.{unset};
-ghost use Rattle.varset.specs.Sets.{Set, has};
-ghost use Rattle.records.specs.Fields.{kind_at, size_at};
-ghost use Rattle.check_pass.specs.Judged.{Judged, Filled, AtNode, Leaf, Operator, Single};
+ghost use Rattle.std.specs.Prelude.{◌≡◌, true, ◌+◌, ◌≤◌, ◌<◌};
+ghost use Rattle.spec_language.specs.Types.{unset, var_type};
+ghost use Rattle.spec_language.specs.Nodes.{outside};
+ghost use Rattle.varset.specs.Sets.{has, none, with};
+ghost use Rattle.records.specs.Fields.{b_at, size_at};
+ghost use Rattle.check_pass.specs.Judged.{AtNode, one_proof};
 
-use check_effects::{Effect, STATEMENT, of_expression, plain};
-use records::format::{TYPE_UNSET, VARIABLE_ENTRIES};
+use check_effects::{Effect, FAILING, STATEMENT, of_expression, plain};
+use records::format::{TYPE_BOOL, VARIABLE_ENTRIES};
 use records::minus;
 use records::nodes::{b_at, size_at};
 use varset::VarSet;
 
-// The effect of node k, as the working arrays have it.
-pub fn effect_of(codes: &[u8], reads: &[u64], sets: &[u64], k: usize) -> Effect
-    requires { (k < length codes.now) × (k < length reads.now) × (k < length sets.now) }
-    ensures { (s : List ℕ) (f : ℕ) (t : List ℕ) (n : ℕ) (d : Set) (i : ℕ) → Filled s f t n d i codes.now reads.now sets.now → k < i → Judged s f t n d k result.code result.reads.0 result.sets.0 }
-{
-    Effect {
-        code: codes[k],
-        reads: VarSet(reads[k]),
-        sets: VarSet(sets[k]),
-    }
-}
-
-// The variables that the expression at node k reads, as the working array has them.
-pub fn reads_of(reads: &[u64], k: usize) -> VarSet
-    requires { k < length reads.now }
-    ensures { result.0 ≡ get_or reads.now k 0 }
-{
-    VarSet(reads[k])
-}
-
-// Whether the children of node i, of so many nodes together, have room before it and fill its subtree.
-pub fn fits(part: &[u8], i: usize, sum: usize) -> bool
-    requires { (12 * i + 12 ≤ length part.now) × (sum < 1099511627776) }
-    ensures { result ≡ true → (size_at part.now i ≡ 1 + sum) × (sum ≤ i) }
-{
-    (size_at(part, i) == 1 + sum) & (sum <= i)
+// A node of the part of a function, which has so many nodes, where the pass has come to it: those before it have passed with these effects.
+#[derive(Clone, Copy)]
+pub struct Node<'a> {
+    pub file: &'a [u8],
+    pub function: usize,
+    pub part: &'a [u8],
+    pub count: usize,
+    pub decls: &'a [usize; VARIABLE_ENTRIES],
+    pub codes: &'a [u8],
+    pub reads: &'a [u64],
+    pub sets: &'a [u64],
+    pub seen: VarSet,
+    pub index: usize,
+    ghost at: { AtNode file.now function part.now count decls.now codes.now reads.now sets.now (has seen.0) index } by { Prim.hlevel one_proof },
 }
 
 // The effect, where the test is passed.
 pub fn guard(passes: bool, e: Effect) -> Effect
     ensures { result.code < unset → (passes ≡ true) × (result ≡ e) }
 {
-    if passes {
-        e
-    } else {
-        plain(TYPE_UNSET, VarSet::empty(), VarSet::empty())
+    if passes { e } else { FAILING }
+}
+
+impl Node<'_> {
+    ghost use Rattle.check_pass.specs.Nodes.{Is, Uses, JudgedAt, Passes, IsLeaf, IsOperator, IsSingle};
+
+    // The effect of node k.
+    pub fn effect_of(&self, k: usize) -> Effect
+        requires { k < self.now.count }
+        ensures { k < self.now.index → JudgedAt self.now k result }
+    {
+        Effect {
+            code: self.codes[k],
+            reads: VarSet(self.reads[k]),
+            sets: VarSet(self.sets[k]),
+        }
     }
-}
 
-// A node without children.
-pub fn leaf_at(
-    file: &[u8],
-    f: usize,
-    part: &[u8],
-    n: usize,
-    decls: &[usize; VARIABLE_ENTRIES],
-    codes: &[u8],
-    reads: &[u64],
-    sets: &[u64],
-    seen: VarSet,
-    i: usize,
-    code: u8,
-) -> Effect
-    requires { AtNode file.now f part.now n decls.now codes.now reads.now sets.now (has seen.0) i × (Leaf file.now f part.now n i code) }
-    ensures { result.code < unset → Judged file.now f part.now n (has seen.0) i result.code result.reads.0 result.sets.0 }
-{
-    guard(
-        fits(part, i, 0),
-        plain(code, VarSet::empty(), VarSet::empty()),
-    )
-}
+    // Whether its children, of so many nodes together, have room before it and fill its subtree.
+    pub fn fits(&self, sum: usize) -> bool
+        requires { sum < 1099511627776 }
+        ensures { result ≡ true → (size_at self.now.part.now self.now.index ≡ 1 + sum) × (sum ≤ self.now.index) }
+    {
+        (size_at(self.part, self.index) == 1 + sum) & (sum <= self.index)
+    }
 
-// A variable.
-pub fn variable_at(
-    file: &[u8],
-    f: usize,
-    part: &[u8],
-    n: usize,
-    decls: &[usize; VARIABLE_ENTRIES],
-    codes: &[u8],
-    reads: &[u64],
-    sets: &[u64],
-    seen: VarSet,
-    i: usize,
-) -> Effect
-    requires { AtNode file.now f part.now n decls.now codes.now reads.now sets.now (has seen.0) i × (kind_at part.now i ≡ 2) }
-    ensures { result.code < unset → Judged file.now f part.now n (has seen.0) i result.code result.reads.0 result.sets.0 }
-{
-    let x = b_at(part, i);
-    let found = check_types::var_type(file, f, part, n, decls, x);
-    let inside = !check_scopes::strays(file, f, part, n, decls, i);
-    let passes = (found < STATEMENT) & inside & fits(part, i, 0);
-    let own = VarSet::empty().insert(x);
-    guard(passes, plain(found, own, VarSet::empty()))
-}
+    // The type of its variable.
+    fn variable_type(&self) -> u8
+        requires { Uses self.now }
+        ensures { result ≡ var_type self.now.file.now self.now.function self.now.part.now self.now.count (b_at self.now.part.now self.now.index) }
+    {
+        let x = b_at(self.part, self.index);
+        check_types::var_type(
+            self.file,
+            self.function,
+            self.part,
+            self.count,
+            self.decls,
+            x,
+        )
+    }
 
-// An operator or &&.
-pub fn operator_at(
-    file: &[u8],
-    f: usize,
-    part: &[u8],
-    n: usize,
-    decls: &[usize; VARIABLE_ENTRIES],
-    codes: &[u8],
-    reads: &[u64],
-    sets: &[u64],
-    seen: VarSet,
-    i: usize,
-    want: u8,
-    code: u8,
-) -> Effect
-    requires { AtNode file.now f part.now n decls.now codes.now reads.now sets.now (has seen.0) i × (Operator file.now f part.now n i want code) }
-    ensures { result.code < unset → Judged file.now f part.now n (has seen.0) i result.code result.reads.0 result.sets.0 }
-{
-    let b = minus(i, 1);
-    let size = size_at(part, b);
-    let a = minus(b, size);
-    let fit = fits(part, i, size + size_at(part, a));
-    let passes = (codes[a] == want) & (codes[b] == want) & fit;
-    let all = reads_of(reads, a).union(reads_of(reads, b));
-    guard(passes, plain(code, all, VarSet::empty()))
-}
+    // Whether it uses its variable outside the variable's decl.
+    fn strays(&self) -> bool
+        requires { Uses self.now }
+        ensures { result ≡ outside self.now.file.now self.now.function self.now.part.now self.now.count self.now.index }
+    {
+        check_scopes::strays(
+            self.file,
+            self.function,
+            self.part,
+            self.count,
+            self.decls,
+            self.index,
+        )
+    }
 
-// A seq.
-pub fn sequence_at(
-    file: &[u8],
-    f: usize,
-    part: &[u8],
-    n: usize,
-    decls: &[usize; VARIABLE_ENTRIES],
-    codes: &[u8],
-    reads: &[u64],
-    sets: &[u64],
-    seen: VarSet,
-    i: usize,
-) -> Effect
-    requires { AtNode file.now f part.now n decls.now codes.now reads.now sets.now (has seen.0) i × (kind_at part.now i ≡ 7) }
-    ensures { result.code < unset → Judged file.now f part.now n (has seen.0) i result.code result.reads.0 result.sets.0 }
-{
-    let b = minus(i, 1);
-    let size = size_at(part, b);
-    let a = minus(b, size);
-    let fit = fits(part, i, size + size_at(part, a));
-    let first = effect_of(codes, reads, sets, a);
-    let second = effect_of(codes, reads, sets, b);
-    let e = check_effects::in_sequence(first, second, seen);
-    let passes = (STATEMENT <= first.code)
-        & (STATEMENT <= second.code)
-        & (STATEMENT <= e.code)
-        & fit;
-    guard(passes, e)
-}
+    // The set of its variable alone.
+    fn variable_alone(&self) -> VarSet
+        requires { Uses self.now }
+        ensures { has result.0 ≡ with none (b_at self.now.part.now self.now.index) }
+    {
+        VarSet::empty().insert(b_at(self.part, self.index))
+    }
 
-// An assign.
-pub fn assign_at(
-    file: &[u8],
-    f: usize,
-    part: &[u8],
-    n: usize,
-    decls: &[usize; VARIABLE_ENTRIES],
-    codes: &[u8],
-    reads: &[u64],
-    sets: &[u64],
-    seen: VarSet,
-    i: usize,
-) -> Effect
-    requires { AtNode file.now f part.now n decls.now codes.now reads.now sets.now (has seen.0) i × (kind_at part.now i ≡ 8) }
-    ensures { result.code < unset → Judged file.now f part.now n (has seen.0) i result.code result.reads.0 result.sets.0 }
-{
-    let x = b_at(part, i);
-    let b = minus(i, 1);
-    let fit = fits(part, i, size_at(part, b));
-    let want = check_types::var_type(file, f, part, n, decls, x);
-    let inside = !check_scopes::strays(file, f, part, n, decls, i);
-    let passes = (codes[b] < STATEMENT) & check_types::is_suited(want, codes[b]) & inside & fit;
-    guard(
-        passes,
-        plain(STATEMENT, reads_of(reads, b), VarSet::empty().insert(x)),
-    )
-}
+    // A node without children.
+    pub fn leaf_at(&self, code: u8) -> Effect
+        requires { IsLeaf self.now code }
+        ensures { Passes self.now result }
+    {
+        guard(self.fits(0), plain(code, VarSet::empty(), VarSet::empty()))
+    }
+    // A variable.
+    #[tactic(auto, unfolding(spec_language::specs::Scopes::uses_variable))]
+    pub fn variable_at(&self) -> Effect
+        requires { Is self.now 2 }
+        ensures { Passes self.now result }
+    {
+        let found = self.variable_type();
+        let passes = (found < STATEMENT) & !self.strays() & self.fits(0);
+        let own = self.variable_alone();
+        guard(passes, plain(found, own, VarSet::empty()))
+    }
 
-// A decl.
-pub fn scope_at(
-    file: &[u8],
-    f: usize,
-    part: &[u8],
-    n: usize,
-    decls: &[usize; VARIABLE_ENTRIES],
-    codes: &[u8],
-    reads: &[u64],
-    sets: &[u64],
-    seen: VarSet,
-    i: usize,
-) -> Effect
-    requires { AtNode file.now f part.now n decls.now codes.now reads.now sets.now (has seen.0) i × (kind_at part.now i ≡ 9) }
-    ensures { result.code < unset → Judged file.now f part.now n (has seen.0) i result.code result.reads.0 result.sets.0 }
-{
-    let x = b_at(part, i);
-    let b = minus(i, 1);
-    let fit = fits(part, i, size_at(part, b));
-    let inner = effect_of(codes, reads, sets, b);
-    let e = check_effects::in_scope(inner, x);
-    let passes = (STATEMENT <= inner.code) & (STATEMENT <= e.code) & fit;
-    guard(passes, e)
-}
+    // An operator or &&.
+    pub fn operator_at(&self, want: u8, code: u8) -> Effect
+        requires { IsOperator self.now want code }
+        ensures { Passes self.now result }
+    {
+        let b = minus(self.index, 1);
+        let size = size_at(self.part, b);
+        let a = minus(b, size);
+        let fit = self.fits(size + size_at(self.part, a));
+        let left = self.effect_of(a);
+        let right = self.effect_of(b);
+        let passes = (left.code == want) & (right.code == want) & fit;
+        let all = left.reads.union(right.reads);
+        guard(passes, plain(code, all, VarSet::empty()))
+    }
 
-// An if.
-pub fn branches_at(
-    file: &[u8],
-    f: usize,
-    part: &[u8],
-    n: usize,
-    decls: &[usize; VARIABLE_ENTRIES],
-    codes: &[u8],
-    reads: &[u64],
-    sets: &[u64],
-    seen: VarSet,
-    i: usize,
-) -> Effect
-    requires { AtNode file.now f part.now n decls.now codes.now reads.now sets.now (has seen.0) i × (kind_at part.now i ≡ 10) }
-    ensures { result.code < unset → Judged file.now f part.now n (has seen.0) i result.code result.reads.0 result.sets.0 }
-{
-    let b = minus(i, 1);
-    let size = size_at(part, b);
-    let a = minus(b, size);
-    let other = size_at(part, a);
-    let c = minus(a, other);
-    let fit = fits(part, i, size + other + size_at(part, c));
-    let first = effect_of(codes, reads, sets, a);
-    let second = effect_of(codes, reads, sets, b);
-    let e = check_effects::in_branches(reads_of(reads, c), first, second);
-    let statements = (STATEMENT <= first.code) & (STATEMENT <= second.code) & (STATEMENT <= e.code);
-    guard((codes[c] == 2) & statements & fit, e)
-}
+    // A seq.
+    pub fn sequence_at(&self) -> Effect
+        requires { Is self.now 7 }
+        ensures { Passes self.now result }
+    {
+        let b = minus(self.index, 1);
+        let size = size_at(self.part, b);
+        let a = minus(b, size);
+        let fit = self.fits(size + size_at(self.part, a));
+        let first = self.effect_of(a);
+        let second = self.effect_of(b);
+        let e = check_effects::in_sequence(first, second, self.seen);
+        let passes = (STATEMENT <= first.code)
+            & (STATEMENT <= second.code)
+            & (STATEMENT <= e.code)
+            & fit;
+        guard(passes, e)
+    }
 
-// A while.
-pub fn loop_at(
-    file: &[u8],
-    f: usize,
-    part: &[u8],
-    n: usize,
-    decls: &[usize; VARIABLE_ENTRIES],
-    codes: &[u8],
-    reads: &[u64],
-    sets: &[u64],
-    seen: VarSet,
-    i: usize,
-) -> Effect
-    requires { AtNode file.now f part.now n decls.now codes.now reads.now sets.now (has seen.0) i × (kind_at part.now i ≡ 11) }
-    ensures { result.code < unset → Judged file.now f part.now n (has seen.0) i result.code result.reads.0 result.sets.0 }
-{
-    let b = minus(i, 1);
-    let size = size_at(part, b);
-    let a = minus(b, size);
-    let fit = fits(part, i, size + size_at(part, a));
-    let body = effect_of(codes, reads, sets, b);
-    let e = check_effects::in_loop(reads_of(reads, a), body);
-    let passes = (codes[a] == 2) & (STATEMENT <= body.code) & (STATEMENT <= e.code) & fit;
-    guard(passes, e)
-}
+    // An assign.
+    #[tactic(auto, unfolding(spec_language::specs::Scopes::uses_variable))]
+    pub fn assign_at(&self) -> Effect
+        requires { Is self.now 8 }
+        ensures { Passes self.now result }
+    {
+        let b = minus(self.index, 1);
+        let fit = self.fits(size_at(self.part, b));
+        let value = self.effect_of(b);
+        let want = self.variable_type();
+        let suited = check_types::is_suited(want, value.code);
+        let own = self.variable_alone();
+        guard(
+            (value.code < STATEMENT) & suited & !self.strays() & fit,
+            plain(STATEMENT, value.reads, own),
+        )
+    }
 
-// A statement of one expression, which is to be of the type `want`.
-pub fn single_at(
-    file: &[u8],
-    f: usize,
-    part: &[u8],
-    n: usize,
-    decls: &[usize; VARIABLE_ENTRIES],
-    codes: &[u8],
-    reads: &[u64],
-    sets: &[u64],
-    seen: VarSet,
-    i: usize,
-    want: u8,
-    code: u8,
-) -> Effect
-    requires { AtNode file.now f part.now n decls.now codes.now reads.now sets.now (has seen.0) i × (Single file.now f part.now n i want code) }
-    ensures { result.code < unset → Judged file.now f part.now n (has seen.0) i result.code result.reads.0 result.sets.0 }
-{
-    let b = minus(i, 1);
-    let fit = fits(part, i, size_at(part, b));
-    let passes = (codes[b] < STATEMENT) & check_types::is_suited(want, codes[b]) & fit;
-    guard(passes, of_expression(code, reads_of(reads, b)))
+    // A decl.
+    pub fn scope_at(&self) -> Effect
+        requires { Is self.now 9 }
+        ensures { Passes self.now result }
+    {
+        let x = b_at(self.part, self.index);
+        let b = minus(self.index, 1);
+        let fit = self.fits(size_at(self.part, b));
+        let inner = self.effect_of(b);
+        let e = check_effects::in_scope(inner, x);
+        let passes = (STATEMENT <= inner.code) & (STATEMENT <= e.code) & fit;
+        guard(passes, e)
+    }
+
+    // An if.
+    pub fn branches_at(&self) -> Effect
+        requires { Is self.now 10 }
+        ensures { Passes self.now result }
+    {
+        let b = minus(self.index, 1);
+        let size = size_at(self.part, b);
+        let a = minus(b, size);
+        let other = size_at(self.part, a);
+        let c = minus(a, other);
+        let fit = self.fits(size + other + size_at(self.part, c));
+        let condition = self.effect_of(c);
+        let first = self.effect_of(a);
+        let second = self.effect_of(b);
+        let e = check_effects::in_branches(condition.reads, first, second);
+        let both = (STATEMENT <= first.code) & (STATEMENT <= second.code);
+        let statements = both & (STATEMENT <= e.code);
+        guard((condition.code == TYPE_BOOL) & statements & fit, e)
+    }
+
+    // A while.
+    pub fn loop_at(&self) -> Effect
+        requires { Is self.now 11 }
+        ensures { Passes self.now result }
+    {
+        let b = minus(self.index, 1);
+        let size = size_at(self.part, b);
+        let a = minus(b, size);
+        let fit = self.fits(size + size_at(self.part, a));
+        let test = self.effect_of(a);
+        let body = self.effect_of(b);
+        let e = check_effects::in_loop(test.reads, body);
+        let statements = (STATEMENT <= body.code) & (STATEMENT <= e.code);
+        guard((test.code == TYPE_BOOL) & statements & fit, e)
+    }
+
+    // A statement of one expression, which is to be of the type `want`.
+    pub fn single_at(&self, want: u8, code: u8) -> Effect
+        requires { IsSingle self.now want code }
+        ensures { Passes self.now result }
+    {
+        let b = minus(self.index, 1);
+        let fit = self.fits(size_at(self.part, b));
+        let value = self.effect_of(b);
+        let passes = (value.code < STATEMENT) & check_types::is_suited(want, value.code) & fit;
+        guard(passes, of_expression(code, value.reads))
+    }
 }

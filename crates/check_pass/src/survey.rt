@@ -14,12 +14,12 @@ use records::{Found, mark_at, vars_of, wide};
 use varset::VarSet;
 
 // The least question that may fail where question 10 found this and question 7 nothing; 15 where it found nothing either.
-fn past_seven(found: Found) -> u8
-    ensures { (10 < result → found ≡ Found.Nothing) × (8 ≤ result) × (result ≤ 15) }
+fn past_seven(found: Option<Found>) -> u8
+    ensures { (10 < result → found ≡ None) × (8 ≤ result) × (result ≤ 15) }
 {
     match found {
-        Found::At(place, item) => 10,
-        Found::Nothing => 15,
+        Some(_) => 10,
+        None => 15,
     }
 }
 
@@ -141,8 +141,7 @@ pub fn survey_part(
     };
     let tops = a_limits();
     let limits = b_limits(file, f);
-    let mut i = 0;
-    while i < n {
+    for i in 0..n {
         if !within_limits(file, f, part, i, &tops, &limits) {
             if !check_shape::node_ok(file, f, part, i) {
                 return 7;
@@ -150,7 +149,6 @@ pub fn survey_part(
             d = check_scopes::count_decl(part, i, d);
             check_scopes::note_decl(part, i, table);
         }
-        i += 1;
     }
     past_seven(check_scopes::lowest_undeclared(file, f, part, n, d))
 }

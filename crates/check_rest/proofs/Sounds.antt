@@ -31,6 +31,9 @@ module _ (s : List ℕ) (f : ℕ) (t : List ℕ) (n : ℕ) where
         scoped = c;
       }
 
+  pub sound_to_eight : (i : ℕ) → Sound s f t n i 8
+  sound_to_eight i = sound i 8 (λ z. absurd (omega arith)) (λ z. absurd (omega arith)) (λ z. absurd (omega arith))
+
   pub fewer : (i : ℕ) {a b : ℕ} → b ≤ a → Sound s f t n i a → Sound s f t n i b
   fewer i l h = record { sized = λ k. h.sized (omega arith); body = λ k. h.body (omega arith); placed = λ k. h.placed (omega arith); scoped = λ k. h.scoped (omega arith) }
 

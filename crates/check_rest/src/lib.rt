@@ -12,7 +12,7 @@ use records::nodes::kind_at;
 pub fn lower(a: u8, b: u8) -> u8
     ensures { (result ≤ a) × (result ≤ b) × (7 ≤ a → 7 ≤ b → 7 ≤ result) × (8 ≤ a → 8 ≤ b → 8 ≤ result) }
 {
-    if a < b { a } else { b }
+    a.min(b)
 }
 
 // The least of questions 8, 9 and 11 that fails at node i of function f's part, of n nodes, or at a child of it; 12 where none does.
@@ -56,13 +56,11 @@ pub fn floor_from(
     ensures { SoundBefore file.now f part.now n n result × (8 ≤ result) × (result ≤ 12) }
 {
     let mut least = 12;
-    let mut i = from;
-    while i < n {
+    for i in from..n {
         least = lower(node_floor(file, f, part, n, decls, i), least);
         if least < 9 {
             return 8;
         }
-        i += 1;
     }
     least
 }

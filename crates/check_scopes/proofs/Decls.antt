@@ -1,7 +1,8 @@
 -- What one more node changes in the count and the table of decls.
 use mathlib.Core.Path.{◌≡◌, refl, sym, ap, ◌∙◌}
-use mathlib.Core.Bool.{Bool, true, false, not, ◌&&◌, ◌||◌, or-true, or-false}
+use mathlib.Core.Bool.{Bool, true, false, not, ◌||◌, and-false, or-true, or-false}
 use mathlib.Core.List.{List}
+use mathlib.Core.Logic.{◌⊎◌, inl, inr}
 use Prim.Native.Nat.{ℕ, zero, suc, ◌+◌, ◌*◌, ◌-◌, ◌≤◌, ◌<◌, zero-le}
 use native.Mathlib.Omega.{arith}
 use native.Mathlib.Numerals.{add-one}
@@ -45,10 +46,6 @@ no_decl t i x h = rw (ne_eqb (kind_at t i) 9 h)
 other_decl : (t : List ℕ) (i x : ℕ) → (x ≡ b_at t i → ⊥) → declares_at t i x ≡ false
 unfolding declares_at
 other_decl t i x h = rw (ne_eqb (b_at t i) x (λ e. h (sym e))) (and-false (eqb (kind_at t i) 9))
-  where
-    and-false : (a : Bool) → a && false ≡ false
-    and-false true = refl
-    and-false false = refl
 
 own_decl : (t : List ℕ) (i : ℕ) → kind_at t i ≡ 9 → declares_at t i (b_at t i) ≡ true
 unfolding declares_at
@@ -151,9 +148,14 @@ module _ (s : List ℕ) (f : ℕ) (t : List ℕ) (n i : ℕ) (uses : uses_variab
   unfolding outside
   strays_is d l e = rw (uses, le-leb (params_of s f) (b_at t i) l, e)
 
-pub no_use : (s : List ℕ) (f : ℕ) (t : List ℕ) (n i : ℕ) → (kind_at t i ≡ 2 → ⊥) → (kind_at t i ≡ 8 → ⊥) → false ≡ outside s f t n i
+pub no_use : (s : List ℕ) (f : ℕ) (t : List ℕ) (n i k : ℕ) → k ≡ kind_at t i → ((k ≡ 2) ⊎ (k ≡ 8) → ⊥) → false ≡ outside s f t n i
 unfolding outside uses_variable
-no_use s f t n i p q = rw (ne_eqb (kind_at t i) 2 p, ne_eqb (kind_at t i) 8 q)
+no_use s f t n i k e p = rw (← e, ne_eqb k 2 (λ q. p (inl q)), ne_eqb k 8 (λ q. p (inr q)))
+
+pub uses_is : (k : ℕ) → (k ≡ 2) ⊎ (k ≡ 8) → uses_variable k ≡ true
+unfolding uses_variable
+uses_is k (inl e) = rw e
+uses_is k (inr e) = rw e
 
 -- what a kind that uses a variable is known by
 pub use_known : (t : List ℕ) (n i kind : ℕ) → Named t n → i < n → kind_at t i ≡ kind → uses_variable kind ≡ true → (uses_variable (kind_at t i) ≡ true) × (b_at t i < 64)

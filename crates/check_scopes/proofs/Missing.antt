@@ -1,4 +1,5 @@
 -- The lowest of the variables that are not declared exactly once.
+use Rattle.std.specs.Prelude.{None}
 use mathlib.Core.Path.{◌≡◌, refl, sym}
 use mathlib.Core.Bool.{Bool, true, false, not, ◌&&◌}
 use mathlib.Core.List.{List}
@@ -6,10 +7,11 @@ use Prim.Native.Nat.{ℕ, zero, suc, ◌≤◌, ◌<◌}
 use native.Mathlib.Omega.{arith}
 use lib.Dec.{eqb, leb, ltb}
 use borrow.Author.Tests.{ne_eqb, le-leb, lt-leb, lt-ltb, le-ltb, ltb-true, ltb-false}
+use Rattle.records.specs.Search.{At}
 use Rattle.varset.specs.Lowest.{lowest}
 use Rattle.varset.specs.Sets.{has, less, below}
 use Rattle.records.specs.Fields.{params_of, vars_of}
-use Rattle.records.specs.declared.Found.TheVariants.{At, Nothing}
+use Rattle.records.proofs.Bools.{and_left, and_right}
 use Rattle.records.proofs.Loops.{lowest_at, lowest_none, lowest_below, lowest_passes}
 use Rattle.spec_language.specs.Scopes.{decl_count}
 use Rattle.spec_language.specs.Nodes.{undeclared, first_undeclared}
@@ -44,14 +46,6 @@ missing_is s f t n d c = rw (c.seen, c.twice) (λ k x. same x k)
         ≡ ltb x (vars_of s f) && (leb (params_of s f) x && not (eqb (decl_count t n x) 1))
     same x = rw (not-less x (params_of s f), once (decl_count t n x)) (and_assoc (ltb x (vars_of s f)) (leb (params_of s f) x) (not (eqb (decl_count t n x) 1)))
 
-left : (a b : Bool) → a && b ≡ true → a ≡ true
-left true b e = refl
-left false b e = e
-
-right : (a b : Bool) → a && b ≡ true → b ≡ true
-right true b e = e
-right false b e = let z : ◌≡◌ {A = ℕ} 0 1 = cc in absurd (omega arith)
-
 -- the lowest below w of the numbers below v that pass u
 module _ (u : ℕ → Bool) (v w : ℕ) (h : v ≤ w) where
   drop_test : (k : ℕ) → k < v → ltb k v && u k ≡ false → u k ≡ false
@@ -61,10 +55,10 @@ module _ (u : ℕ → Bool) (v w : ℕ) (h : v ≤ w) where
   unfolding first_undeclared
   found_within x e l =
       let p : ltb x v && u x ≡ true = rw e (lowest_passes (λ y. ltb y v && u y) w (rw e at l)) in
-      let m : x < v = ltb-true x v (left (ltb x v) (u x) p) in
-      rw (lowest_at u v x m (λ k q. drop_test k (omega arith) (lowest_below (λ y. ltb y v && u y) w k (rw e at q))) (right (ltb x v) (u x) p), lt-ltb x v m)
+      let m : x < v = ltb-true x v (and_left (ltb x v) (u x) p) in
+      rw (lowest_at u v x m (λ k q. drop_test k (omega arith) (lowest_below (λ y. ltb y v && u y) w k (rw e at q))) (and_right (ltb x v) (u x) p), lt-ltb x v m)
 
-  pub none_within : (x : ℕ) → x ≡ lowest (λ y. ltb y v && u y) w → w ≤ x → Nothing ≡ first_undeclared (lowest u v) v
+  pub none_within : (x : ℕ) → x ≡ lowest (λ y. ltb y v && u y) w → w ≤ x → None ≡ first_undeclared (lowest u v) v
   unfolding first_undeclared
   none_within x e l =
       rw (lowest_none u v (λ k q. drop_test k q (lowest_below (λ y. ltb y v && u y) w k (rw e at (below_x k q)))), le-ltb v v (omega arith))

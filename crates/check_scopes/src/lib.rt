@@ -24,6 +24,8 @@ pub struct Declared {
 }
 
 // The same with node i taken in.
+//
+// By value, since it is two words: a method that changes it in place would be no shorter.
 pub fn count_decl(part: &[u8], i: usize, d: Declared) -> Declared
     requires inside { 12 * i + 12 ≤ length part.now }
     requires narrow { kind_at part.now i ≡ 9 → b_at part.now i < most_variables }
@@ -34,17 +36,15 @@ pub fn count_decl(part: &[u8], i: usize, d: Declared) -> Declared
         return d;
     }
     let x = b_at(part, i);
-    let seen = d.seen;
-    let twice = d.twice;
-    if seen.contains(x) {
+    if d.seen.contains(x) {
         Declared {
-            seen,
-            twice: twice.insert(x),
+            twice: d.twice.insert(x),
+            ..d
         }
     } else {
         Declared {
-            seen: seen.insert(x),
-            twice,
+            seen: d.seen.insert(x),
+            ..d
         }
     }
 }
@@ -59,33 +59,29 @@ fn declared_in(part: &[u8], n: usize) -> Declared
         seen: VarSet::empty(),
         twice: VarSet::empty(),
     };
-    let mut i = 0;
-    while i < n {
+    for i in 0..n {
         d = count_decl(part, i, d);
-        i += 1;
     }
     d
 }
 
 // The lowest variable of function f that is not declared exactly once, where d has the decls of its part, of n nodes.
-pub fn lowest_undeclared(file: &[u8], f: usize, part: &[u8], n: usize, d: Declared) -> Found
+pub fn lowest_undeclared(file: &[u8], f: usize, part: &[u8], n: usize, d: Declared) -> Option<Found>
     requires laid { (12 * (1 + f) + 12 ≤ length file.now) × (vars_of file.now f ≤ most_variables) × (params_of file.now f ≤ most_parameters) }
     requires counted { Counts part.now n d }
     ensures { result ≡ first_undeclared (lowest (undeclared file.now f part.now n) (vars_of file.now f)) (vars_of file.now f) }
 {
-    let seen = d.seen;
-    let twice = d.twice;
     let own = VarSet::below(wide(vars_of(file, f))).minus(VarSet::below(wide(params_of(file, f))));
-    let x = own.minus(seen.minus(twice)).lowest();
+    let x = own.minus(d.seen.minus(d.twice)).lowest();
     if x < 64 {
-        Found::At(0, x)
+        Some(Found { place: 0, item: x })
     } else {
-        Found::Nothing
+        None
     }
 }
 
 // The lowest variable of function f, whose part has n nodes, that is not declared exactly once.
-pub fn first_undeclared(file: &[u8], f: usize, part: &[u8], n: usize) -> Found
+pub fn first_undeclared(file: &[u8], f: usize, part: &[u8], n: usize) -> Option<Found>
     requires laid { (12 * (1 + f) + 12 ≤ length file.now) × (vars_of file.now f ≤ most_variables) × (params_of file.now f ≤ most_parameters) }
     requires inside { 12 * n ≤ length part.now }
     requires named { Named part.now n }
@@ -114,15 +110,14 @@ pub fn decl_table(part: &[u8], n: usize) -> [usize; VARIABLE_ENTRIES]
     ensures { Decls part.now n result }
 {
     let mut table = [0usize; VARIABLE_ENTRIES];
-    let mut i = 0;
-    while i < n {
+    for i in 0..n {
         note_decl(part, i, &mut table);
-        i += 1;
     }
     table
 }
 
 // Whether node j lies in the subtree of node d, below it.
+#[tactic(auto, unfolding(spec_language::specs::Scopes::under))]
 pub fn is_under(part: &[u8], d: usize, j: usize) -> bool
     requires { (12 * d + 12 ≤ length part.now) × (12 * j + 12 ≤ length part.now) }
     ensures { result ≡ under part.now d j }
@@ -168,28 +163,19 @@ pub fn is_outside(
     requires told { Decls part.now n decls.now }
     ensures { result ≡ outside file.now f part.now n i }
 {
-    let kind = kind_at(part, i);
-    match kind {
-        2 => strays(file, f, part, n, decls, i),
-        8 => strays(file, f, part, n, decls, i),
+    match kind_at(part, i) {
+        2 | 8 => strays(file, f, part, n, decls, i),
         _ => false,
     }
 }
 
 // The lowest node of function f's part, of n nodes, that uses or assigns a variable outside its decl.
-pub fn first_outside(file: &[u8], f: usize, part: &[u8], n: usize) -> Found
+pub fn first_outside(file: &[u8], f: usize, part: &[u8], n: usize) -> Option<Found>
     requires laid { 12 * (1 + f) + 12 ≤ length file.now }
     requires inside { 12 * n ≤ length part.now }
     requires known { Known part.now n }
     ensures { result ≡ first_of (outside file.now f part.now n) n }
 {
     let decls = decl_table(part, n);
-    let mut i = 0;
-    while i < n {
-        if is_outside(file, f, part, n, &decls, i) {
-            return Found::At(i, 0);
-        }
-        i += 1;
-    }
-    Found::Nothing
+    records::first_of(n, |i| is_outside(file, f, part, n, &decls, i))
 }

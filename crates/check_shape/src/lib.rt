@@ -4,19 +4,19 @@
 ghost use Rattle.std.specs.Prelude.{◌≡◌, not, ◌&&◌, ◌+◌, ◌*◌, ◌≤◌, ◌<◌, eqb, ltb, length};
 ghost use Rattle.records.specs.Fields.{functions, params_of, size_at};
 ghost use Rattle.records.specs.Search.{first_of};
-ghost use Rattle.records.specs.Children.{walk};
+ghost use Rattle.records.specs.Children.{children};
 ghost use Rattle.spec_language.specs.Records.{function_ok};
 ghost use Rattle.spec_language.specs.Nodes.{fields_ok, node_ok, total, size_ok};
-ghost use Rattle.check_shape.specs.Failing.{fails};
 
 use records::format::{FUNCTION_MARK, MOST_PARAMETERS, MOST_VARIABLES, NODE_MARK, OPERATORS};
-use records::nodes::{a_at, arity_at, b_at, kind_at, size_at};
+use records::nodes::{a_at, b_at, children_of, kind_at, size_at};
 use records::{
-    Found, count_of, function_count, mark_at, mask_fits, mask_of, minus, params_of, result_of,
-    u16_at, vars_of, wide,
+    Found, count_of, function_count, mark_at, mask_fits, mask_of, params_of, result_of, u16_at,
+    vars_of, wide,
 };
 
 // Whether the record of function f is right.
+#[tactic(auto, unfolding(spec_language::specs::Records::function_ok, spec_language::specs::Records::within))]
 fn function_ok(file: &[u8], f: usize) -> bool
     requires { 12 * (1 + f) + 12 ≤ length file.now }
     ensures { result ≡ function_ok file.now f }
@@ -35,18 +35,11 @@ fn function_ok(file: &[u8], f: usize) -> bool
 }
 
 // The lowest function whose record is not right.
-pub fn first_function(file: &[u8], count: usize) -> Found
+pub fn first_function(file: &[u8], count: usize) -> Option<Found>
     requires { 12 * (1 + count) ≤ length file.now }
     ensures { result ≡ first_of (λ f. not (function_ok file.now f)) count }
 {
-    let mut f = 0;
-    while f < count {
-        if !function_ok(file, f) {
-            return Found::At(f, 0);
-        }
-        f += 1;
-    }
-    Found::Nothing
+    records::first_of(count, |f| !function_ok(file, f))
 }
 
 // Whether b is a function that takes a arguments.
@@ -63,6 +56,7 @@ fn call_ok(file: &[u8], a: u8, b: u32) -> bool
 }
 
 // Whether a node of function f may have these fields; by kind.
+#[tactic(auto, unfolding(spec_language::specs::Nodes::fields_ok, spec_language::specs::Nodes::fields))]
 fn fields_ok(file: &[u8], f: usize, kind: u8, a: u8, b: u32) -> bool
     requires { (12 * (1 + functions file.now) ≤ length file.now) × (f < functions file.now) }
     ensures { result ≡ fields_ok file.now f kind a b }
@@ -84,6 +78,7 @@ fn fields_ok(file: &[u8], f: usize, kind: u8, a: u8, b: u32) -> bool
 }
 
 // Whether the mark and the fields of node i of function f's part are right.
+#[tactic(auto, unfolding(spec_language::specs::Nodes::node_ok))]
 pub fn node_ok(file: &[u8], f: usize, part: &[u8], i: usize) -> bool
     requires heads { (12 * (1 + functions file.now) ≤ length file.now) × (f < functions file.now) }
     requires inside { 12 * i + 12 ≤ length part.now }
@@ -93,57 +88,42 @@ pub fn node_ok(file: &[u8], f: usize, part: &[u8], i: usize) -> bool
     (mark_at(part, i) == NODE_MARK) & right
 }
 
-// The sizes of the m children that end at `last` together.
-fn total_size(part: &[u8], m: usize, last: usize) -> usize
-    requires { (12 * last + 12 ≤ length part.now) × (m < 256) }
-    ensures { (result ≡ total (size_at part.now) (walk (size_at part.now) m last)) × (result < 1099511627776) }
+// The sizes of the children of node i together.
+fn total_size(part: &[u8], i: usize) -> usize
+    requires { 12 * i + 12 ≤ length part.now }
+    ensures { (result ≡ total (size_at part.now) (children part.now i)) × (result < 1099511627776) }
 {
     let mut sum = 0;
-    let mut j = m;
-    let mut c = last;
-    while 0 < j {
-        let size = size_at(part, c);
-        sum += size;
-        c = minus(c, size);
-        j -= 1;
+    for (_, child) in children_of(part, i) {
+        sum += size_at(part, child);
     }
     sum
 }
 
 // Whether the size of node i of a part of n nodes is right.
+#[tactic(auto, unfolding(spec_language::specs::Nodes::size_ok))]
 pub fn size_ok(part: &[u8], n: usize, i: usize) -> bool
     requires { (12 * n ≤ length part.now) × (i < n) }
     ensures { result ≡ size_ok part.now n i }
 {
     let size = size_at(part, i);
-    let sum = total_size(part, arity_at(part, i), minus(i, 1));
+    let sum = total_size(part, i);
     (size == 1 + sum) & ((sum <= i) & (!(1 + i == n) | (size == n)))
 }
 
-// Whether node i fails question q, which is 7 or 8.
-fn fails_at(file: &[u8], f: usize, part: &[u8], n: usize, q: u8, i: usize) -> bool
-    requires heads { (12 * (1 + functions file.now) ≤ length file.now) × (f < functions file.now) }
-    requires inside { (12 * n ≤ length part.now) × (i < n) }
-    ensures { result ≡ fails q file.now f part.now n i }
-{
-    match q {
-        7 => !node_ok(file, f, part, i),
-        _ => !size_ok(part, n, i),
-    }
-}
-
-// The lowest node of function f's part, of n nodes, that fails question q, which is 7 or 8.
-pub fn first_node(file: &[u8], f: usize, part: &[u8], n: usize, q: u8) -> Found
+// The lowest node of function f's part, of n nodes, whose mark or fields are not right.
+pub fn first_wrong_node(file: &[u8], f: usize, part: &[u8], n: usize) -> Option<Found>
     requires heads { (12 * (1 + functions file.now) ≤ length file.now) × (f < functions file.now) }
     requires inside { 12 * n ≤ length part.now }
-    ensures { result ≡ first_of (fails q file.now f part.now n) n }
+    ensures { result ≡ first_of (λ i. not (node_ok file.now f part.now i)) n }
 {
-    let mut i = 0;
-    while i < n {
-        if fails_at(file, f, part, n, q, i) {
-            return Found::At(i, 0);
-        }
-        i += 1;
-    }
-    Found::Nothing
+    records::first_of(n, |i| !node_ok(file, f, part, i))
+}
+
+// The lowest node of a part of n nodes whose size is not right.
+pub fn first_wrong_size(part: &[u8], n: usize) -> Option<Found>
+    requires { 12 * n ≤ length part.now }
+    ensures { result ≡ first_of (λ i. not (size_ok part.now n i)) n }
+{
+    records::first_of(n, |i| !size_ok(part, n, i))
 }

@@ -9,10 +9,11 @@ ghost use Rattle.records.specs.Children.{children};
 ghost use Rattle.spec_language.specs.Sorts.{is_expression, wants_expression, wrong_sort};
 ghost use Rattle.spec_language.specs.Nodes.{wrong_child, misplaced};
 
-use records::nodes::{arity_at, kind_at, prior};
-use records::{Found, minus};
+use records::Found;
+use records::nodes::{children_of, kind_at};
 
 // Whether a kind is an expression; by kind.
+#[tactic(auto, unfolding(spec_language::specs::Sorts::is_expression))]
 pub fn is_expression(kind: u8) -> bool
     ensures { result ≡ is_expression kind }
 {
@@ -24,6 +25,7 @@ pub fn is_expression(kind: u8) -> bool
 }
 
 // Whether child k of a node of that kind is to be an expression; by kind.
+#[tactic(auto, unfolding(spec_language::specs::Sorts::wants_expression))]
 fn wants_expression(kind: u8, k: usize) -> bool
     ensures { result ≡ wants_expression kind k }
 {
@@ -37,6 +39,7 @@ fn wants_expression(kind: u8, k: usize) -> bool
 }
 
 // Whether a node of kind `child` is of the other sort than child k of a node of that kind is to be.
+#[tactic(auto, unfolding(spec_language::specs::Sorts::wrong_sort, spec_language::specs::Sorts::differ))]
 fn wrong_sort(kind: u8, k: usize, child: u8) -> bool
     ensures { result ≡ wrong_sort kind k child }
 {
@@ -49,6 +52,7 @@ fn wrong_sort(kind: u8, k: usize, child: u8) -> bool
 }
 
 // The lower of two numbers, where the second counts only if it is wrong.
+#[tactic(auto, unfolding(varset::specs::Lowest::pick))]
 fn lower(low: usize, c: usize, wrong: bool) -> usize
     ensures { result ≡ pick wrong (min low c) low }
 {
@@ -60,37 +64,36 @@ fn lower(low: usize, c: usize, wrong: bool) -> usize
 }
 
 // The lower of `best` and the lowest child of node q that is of the wrong sort.
+//
+// A number in place of an Option: its contract is an equation with the definition `lowest`, which says n for none.
 pub fn lowest_wrong(part: &[u8], n: usize, q: usize, best: usize) -> usize
     requires { (12 * n ≤ length part.now) × (q < n) × (best ≤ n) }
     ensures { result ≡ min best (lowest (wrong_child part.now (kind_at part.now q) (children part.now q)) n) }
 {
     let kind = kind_at(part, q);
     let mut low = best;
-    let mut j = arity_at(part, q);
-    let mut c = minus(q, 1);
-    while 0 < j {
-        j -= 1;
-        low = lower(low, c, wrong_sort(kind, j, kind_at(part, c)));
-        c = prior(part, c);
+    for (k, child) in children_of(part, q) {
+        low = lower(low, child, wrong_sort(kind, k, kind_at(part, child)));
     }
     low
 }
 
 // The lowest node of a part of n nodes that is of the other sort than its position wants.
-pub fn first_misplaced(part: &[u8], n: usize) -> Found
+pub fn first_misplaced(part: &[u8], n: usize) -> Option<Found>
     requires { (12 * n ≤ length part.now) × (1 ≤ n) }
     ensures { result ≡ first_of (misplaced part.now n) n }
 {
     let body = n - 1;
     let mut low = lower(n, body, is_expression(kind_at(part, body)));
-    let mut q = 0;
-    while q < n {
+    for q in 0..n {
         low = lowest_wrong(part, n, q, low);
-        q += 1;
     }
     if low < n {
-        Found::At(low, 0)
+        Some(Found {
+            place: low,
+            item: 0,
+        })
     } else {
-        Found::Nothing
+        None
     }
 }

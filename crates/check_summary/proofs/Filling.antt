@@ -11,6 +11,8 @@ use Rattle.spec_language.specs.Known.{names_variable, WellFormed}
 use Rattle.spec_language.specs.Scopes.{uses_variable}
 use Rattle.spec_language.specs.Sorts.{is_expression}
 use Rattle.spec_language.proofs.Tiles.{Sizes, size-some, size_fits, nested}
+use Rattle.spec_language.proofs.KindLists.{in_range, statement_within}
+use Rattle.spec_language.proofs.KnownNodes.{inner}
 use Rattle.spec_language.proofs.Facts.{sized_is}
 use Rattle.spec_language.proofs.Subtrees.{tree_placed}
 use Rattle.check_summary.specs.Tables.{Range, word_of, RowsFilled}
@@ -19,6 +21,22 @@ use Rattle.check_summary.proofs.Ranges.{joined, needs_range}
 module _ {t : List ℕ} {n : ℕ} (p : WellFormed t n) where
   pub sizes : Sizes t n
   sizes i l = sized_is t n i (p.sized i l)
+
+  -- a node's record is in the part
+  pub in_part : {i : ℕ} → i < n → 12 * i + 12 ≤ length t
+  in_part {i} l = omega (arith, p.inside, l)
+
+  -- a statement with children has one right before it
+  pub after_child : {i : ℕ} → i < n → 7 ≤ kind_at t i → kind_at t i ≤ 14 → 1 ≤ i
+  after_child l a b = inner _ p.nodes l refl (statement_within _ a (omega arith))
+
+  -- an assign and a decl name a variable
+  pub held : {i : ℕ} → i < n → 8 ≤ kind_at t i → kind_at t i ≤ 9 → b_at t i < 64
+  unfolding names_variable uses_variable
+  held {i} l a b = p.nodes.variable i l (by_kind (kind_at t i) a (omega arith))
+    where
+      by_kind : (kind : ℕ) → 8 ≤ kind → kind < 10 → names_variable kind ≡ true
+      by_kind = in_range (λ k. names_variable k ≡ true) 8 2 (refl, (refl, refl))
 
   -- what a node's own read asks
   pub read_asks : {i : ℕ} → i < n → (12 * i + 12 ≤ length t) × (kind_at t i ≡ 2 → b_at t i < 64)

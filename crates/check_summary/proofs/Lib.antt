@@ -1,7 +1,6 @@
 pub mod SetTables
 pub mod SummaryParts
 pub mod Passing
-pub mod Fails
 pub mod Ranges
 pub mod Filling
 pub mod Arms

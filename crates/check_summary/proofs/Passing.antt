@@ -1,4 +1,5 @@
 -- How values flow through a statement, by its summary.
+use Rattle.std.specs.Prelude.{Some, Option, None}
 use mathlib.Core.Path.{◌≡◌, refl, sym, ap, ◌∙◌}
 use mathlib.Core.Bool.{Bool, true, false, not, ◌&&◌}
 use mathlib.Core.List.{List}
@@ -7,7 +8,6 @@ use Prim.Native.Nat.{ℕ}
 use borrow.Author.Tests.{not-true}
 use Rattle.varset.specs.Sets.{Set, has, none, either, less, Sub}
 use Rattle.records.specs.declared.Found.{Found}
-use Rattle.records.specs.declared.Found.TheVariants.{At, Nothing}
 use Rattle.records.proofs.Bools.{and_left, and_right, and_both, by, clash}
 use Rattle.spec_language.specs.Statements.{Read, Statement}
 use Rattle.spec_language.specs.Flow.{missing, lacks}
@@ -28,10 +28,10 @@ within_is a b = (
     at h x = by (a x && not (b x)) (λ y. clash (b x) (h x (and_left (a x) _ y)) (not-true (b x) (and_right (a x) _ y))) (λ y. y)
 
 -- a test that says whether a search found nothing
-found_nothing : (r : Bool) (found : Found) → (r ≡ true ↔ (found ≡ Nothing)) → r ≡ clear found
+found_nothing : (r : Bool) (found : Option Found) → (r ≡ true ↔ (found ≡ None)) → r ≡ clear found
 found_nothing true found h = sym (rw (h.0 refl) refl)
-found_nothing false (At i x) h = refl
-found_nothing false Nothing h = h.1 refl
+found_nothing false (Some found) h = refl
+found_nothing false None h = h.1 refl
 
 pub held_is : {rs : List Read} {needs : ℕ} {r : Bool} (d : Set) → Needs rs needs → (r ≡ true ↔ Sub (has needs) d) → r ≡ clear (missing rs d)
 held_is {rs} {needs} {r} d n h = found_nothing r (missing rs d) (λ e. n.enough d (h.0 e), λ e. h.1 (n.wanted d e))

@@ -83,6 +83,7 @@ fn own_read(part: &[u8], i: usize) -> VarSet
 }
 
 // What the expression at node i needs, from the rows of the nodes before it.
+#[tactic(auto, using(crate::proofs::Filling::in_part))]
 fn expression_needs(part: &[u8], n: usize, table: &[u64], i: usize) -> VarSet
     requires part { WellFormed part.now n × (i < n) × (is_expression (kind_at part.now i) ≡ true) }
     requires table { RowsFilled part.now table.now i × (5 * n ≤ length table.now) }
@@ -91,16 +92,17 @@ fn expression_needs(part: &[u8], n: usize, table: &[u64], i: usize) -> VarSet
     let mut set = own_read(part, i);
     let end = minus(i + 1, size_at(part, i));
     let mut low = i;
+    // A while: the part says how far each step goes, so that a for has no range to go through.
     while end < low {
         let c = low - 1;
-        let needs = needs_at(table, c);
-        set = set.union(needs);
+        set = set.union(needs_at(table, c));
         low = minus(low, size_at(part, c));
     }
     set
 }
 
 // What the statement at node i does, from the rows of the nodes before it; by kind.
+#[tactic(auto, using(crate::proofs::Filling::in_part, crate::proofs::Filling::after_child, crate::proofs::Filling::held))]
 fn statement_row(part: &[u8], n: usize, table: &[u64], i: usize) -> Row
     requires part { WellFormed part.now n × (i < n) × (is_expression (kind_at part.now i) ≡ false) }
     requires table { RowsFilled part.now table.now i × (5 * n ≤ length table.now) }
@@ -117,8 +119,7 @@ fn statement_row(part: &[u8], n: usize, table: &[u64], i: usize) -> Row
         }
         8 => {
             let needs = needs_at(table, i - 1);
-            let none = VarSet::empty();
-            let adds = none.insert(b_at(part, i));
+            let adds = VarSet::empty().insert(b_at(part, i));
             crate::rows::plain(needs, adds, false)
         }
         9 => {
@@ -160,6 +161,7 @@ fn statement_row(part: &[u8], n: usize, table: &[u64], i: usize) -> Row
 }
 
 // Stores the row of node i after those of the nodes before it.
+#[tactic(auto, using(crate::proofs::Filling::in_part))]
 fn add_row(part: &[u8], n: usize, table: &mut [u64], i: usize)
     requires part { WellFormed part.now n × (i < n) }
     requires table { RowsFilled part.now table.old i × (5 * n ≤ length table.old) }
@@ -177,18 +179,18 @@ fn add_row(part: &[u8], n: usize, table: &mut [u64], i: usize)
 }
 
 // Fills the rows of the n nodes of a part.
+#[tactic(auto, using(crate::proofs::Stored::none_filled))]
 pub fn fill(part: &[u8], n: usize, table: &mut [u64])
     requires { WellFormed part.now n × (5 * n ≤ length table.old) }
     ensures { RowsFilled part.now table.new n }
 {
-    let mut i = 0;
-    while i < n {
+    for i in 0..n {
         add_row(part, n, table, i);
-        i += 1;
     }
 }
 
-// Whether every read of a statement finds a value, and the variables that have a value after it.
+// Whether every read of a statement finds a value, and the variables that have a value after it. No Option: what is left is promised
+// where a read finds none, too.
 #[derive(Clone, Copy)]
 pub struct Flowed {
     pub ok: bool,
@@ -208,12 +210,9 @@ pub fn row_through(table: &[u64], i: usize, set: VarSet) -> Flowed
     ensures { (s : Statement) → RowSays s table.now i → FlowedIs s (has set.0) result }
 {
     let row = row_at(table, i);
-    let needs = row.needs;
-    let drops = row.drops;
-    let adds = row.adds;
-    let held = is_within(needs, set);
+    let held = is_within(row.needs, set);
     Flowed {
         ok: !row.fails & held,
-        left: set.minus(drops).union(adds),
+        left: set.minus(row.drops).union(row.adds),
     }
 }

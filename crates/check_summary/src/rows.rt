@@ -45,23 +45,15 @@ pub fn plain(needs: VarSet, adds: VarSet, returned: bool) -> Row
 pub fn in_sequence(first: Row, second: Row) -> Row
     ensures { (s u : Statement) → Sums s first → Sums u second → Sums (Seq s u) result }
 {
-    let early = first.needs;
-    let after = second.needs;
-    let set = first.adds;
-    let later = second.adds;
-    let gone = first.drops;
-    let lost = second.drops;
-    let here = first.declared;
-    let there = second.declared;
-    let late = after.minus(set);
-    let together = late.meet(gone).is_empty();
+    let late = second.needs.minus(first.adds);
+    let together = late.meet(first.drops).is_empty();
     Row {
         fails: fails_with(first.fails, second.fails, together),
         returned: first.returned | second.returned,
-        needs: early.union(late),
-        adds: set.minus(lost).union(later),
-        drops: gone.union(lost),
-        declared: here.union(there),
+        needs: first.needs.union(late),
+        adds: first.adds.minus(second.drops).union(second.adds),
+        drops: first.drops.union(second.drops),
+        declared: first.declared.union(second.declared),
     }
 }
 
@@ -69,21 +61,15 @@ pub fn in_sequence(first: Row, second: Row) -> Row
 pub fn in_branches(condition: VarSet, first: Row, second: Row) -> Row
     ensures { (e : List Read) (s u : Statement) → Needs e condition.0 → Sums s first → Sums u second → Sums (If e s u) result }
 {
-    let early = first.needs;
-    let after = second.needs;
-    let set = first.adds;
-    let later = second.adds;
-    let gone = first.drops;
-    let lost = second.drops;
-    let here = first.declared;
-    let there = second.declared;
+    let gone = first.drops.minus(first.adds);
+    let lost = second.drops.minus(second.adds);
     Row {
         fails: fails_with(first.fails, second.fails, true),
         returned: first.returned & second.returned,
-        needs: condition.union(early.union(after)),
-        adds: set.meet(later),
-        drops: gone.minus(set).union(lost.minus(later)),
-        declared: here.union(there),
+        needs: condition.union(first.needs.union(second.needs)),
+        adds: first.adds.meet(second.adds),
+        drops: gone.union(lost),
+        declared: first.declared.union(second.declared),
     }
 }
 
@@ -91,15 +77,13 @@ pub fn in_branches(condition: VarSet, first: Row, second: Row) -> Row
 pub fn in_loop(condition: VarSet, body: Row) -> Row
     ensures { (e : List Read) (s : Statement) → Needs e condition.0 → Sums s body → Sums (While e s) result }
 {
-    let needs = body.needs;
-    let declared = body.declared;
     Row {
         fails: body.fails,
         returned: false,
-        needs: condition.union(needs),
+        needs: condition.union(body.needs),
         adds: VarSet::empty(),
-        drops: declared,
-        declared,
+        drops: body.declared,
+        declared: body.declared,
     }
 }
 
@@ -108,17 +92,12 @@ pub fn in_scope(inner: Row, x: u32) -> Row
     requires { x < most_variables }
     ensures { (s : Statement) → Sums s inner → Sums (Decl x s) result }
 {
-    let needs = inner.needs;
-    let adds = inner.adds;
-    let drops = inner.drops;
-    let declared = inner.declared;
-    let read = needs.contains(x);
     Row {
-        fails: fails_with(inner.fails, read, true),
+        fails: fails_with(inner.fails, inner.needs.contains(x), true),
         returned: inner.returned,
-        needs,
-        adds: adds.remove(x),
-        drops: drops.insert(x),
-        declared: declared.insert(x),
+        needs: inner.needs,
+        adds: inner.adds.remove(x),
+        drops: inner.drops.insert(x),
+        declared: inner.declared.insert(x),
     }
 }

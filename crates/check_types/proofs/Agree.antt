@@ -1,49 +1,66 @@
 -- Children taken from the last to the first, and types read from an array.
 use mathlib.Core.Path.{◌≡◌, refl, sym, ap, ◌∙◌}
 use mathlib.Core.Bool.{Bool, true, false, not, ◌&&◌}
-use mathlib.Core.List.{List}
+use mathlib.Core.List.{List, [], ◌∷◌}
 use Prim.Native.Nat.{ℕ, zero, suc, ◌+◌, ◌-◌, ◌≤◌, ◌<◌}
 use native.Mathlib.Omega.{arith}
-use native.Mathlib.Nat.{not-suc-le-zero}
 use lib.ListN.{get_or, set, length}
 use lib.Seq.{get_or-set_same, get_or-set_other}
 use borrow.Author.Tests.{not-true, not-false}
 use borrow.Author.Count.{below_more}
-use Rattle.records.proofs.Children.{length-walk}
+use Rattle.records.proofs.Children.{length-walk, Nodes, Came, nodes_all, nodes_step, nodes_end}
 use Rattle.records.specs.Fields.{size_at}
 use Rattle.records.specs.Children.{arity_at, walk, children}
+use Rattle.records.specs.Numbered.{left_of}
 use Rattle.spec_language.specs.Types.{type_at, want_at, suits, agree}
 use Rattle.spec_language.specs.Nodes.{mistyped}
 use Rattle.spec_language.specs.Known.{Known}
 use Rattle.check_types.specs.Types.{NodesTyped}
 
--- what is left of the children where j are left, the last of them c
-module _ (want type size : ℕ → ℕ) (j c : ℕ) where
-  agree_step : 0 < j → agree want type (walk size j c) ≡ suits (want (j - 1)) (type c) && agree want type (walk size (j - 1) (c - size c))
-  unfolding agree walk
-  agree_step h = go j h
+-- whether the children agree is whether those that are left do; there are at most m
+pub record Agrees (want type : ℕ → ℕ) (n m : ℕ) (whole : Bool) (left : List (ℕ × ℕ)) : Type 0 where
+  pub nodes : List ℕ
+  pub are : Nodes n left nodes
+  pub few : length nodes ≤ m
+  pub equal : agree want type nodes ≡ whole
+
+pub agree_all : (want type : ℕ → ℕ) (t : List ℕ) (n i : ℕ) {left : List (ℕ × ℕ)} → i < n → left ≡ left_of t (arity_at t i) (i - 1) → Agrees want type n (arity_at t i) (agree want type (children t i)) left
+unfolding children
+agree_all want type t n i h e =
+    let l = length-walk (size_at t) (arity_at t i) (i - 1) in
+    record { nodes = walk (size_at t) (arity_at t i) (i - 1); are = rw e (nodes_all t n (arity_at t i) (i - 1) (omega arith)); few = omega arith; equal = refl }
+
+-- the next child c, with its number k
+module _ {want type : ℕ → ℕ} {n m : ℕ} {whole : Bool} {left more : List (ℕ × ℕ)} {k c : ℕ} (w : Agrees want type n m whole left) (e : left ≡ (k, c) ∷ more) where
+  came : Came n k c more w.nodes
+  came = nodes_step w.nodes w.are e
+
+  pub agree_inside : (k < m) × (c < n)
+  agree_inside =
+      let few = rw came.first at w.few in
+      (omega (arith, came.number), came.below)
+
+  agree_first : suits (want k) (type c) && agree want type came.rest ≡ whole
+  unfolding agree
+  agree_first = go w.nodes came.rest came.first came.number w.equal
     where
-      go : (j : ℕ) → 0 < j → agree want type (walk size j c) ≡ suits (want (j - 1)) (type c) && agree want type (walk size (j - 1) (c - size c))
-      go zero h = absurd (not-suc-le-zero h)
-      go (suc j) h = let e : suc j - 1 ≡ j = omega arith in rw (length-walk size j (c - size c), e)
+      go : (nodes rest : List ℕ) → nodes ≡ c ∷ rest → k ≡ length rest → agree want type nodes ≡ whole → suits (want k) (type c) && agree want type rest ≡ whole
+      go nodes rest f q h = rw q (rw f at h)
 
-  -- the last of them is not suited
-  pub agree_not : (whole r : Bool) (w : ℕ) → whole ≡ agree want type (walk size j c) → 0 < j → w ≡ want (j - 1) → r ≡ suits w (type c) → not r ≡ true → false ≡ whole
-  agree_not whole r w e h a q n = sym (e ∙ agree_step h ∙ rw (← a, ← q, not-true r n))
+  -- it is not suited
+  pub agree_not : (r : Bool) (x : ℕ) → x ≡ want k → r ≡ suits x (type c) → not r ≡ true → false ≡ whole
+  agree_not r x a q h = rw (← a, ← q, not-true r h) at agree_first
 
-  -- it is, and `next` is the one before it
-  pub agree_on : (whole r : Bool) (w next : ℕ) → whole ≡ agree want type (walk size j c) → 0 < j → w ≡ want (j - 1) → r ≡ suits w (type c) → not r ≡ false
-      → next ≡ c - size c → whole ≡ agree want type (walk size (j - 1) next)
-  agree_on whole r w next e h a q n p = e ∙ agree_step h ∙ rw (← a, ← q, not-false r n, p)
+  -- it is
+  pub agree_more : (r : Bool) (x : ℕ) → x ≡ want k → r ≡ suits x (type c) → not r ≡ false → Agrees want type n m whole more
+  agree_more r x a q h =
+      let few = rw came.first at w.few in
+      record { nodes = came.rest; are = came.are; few = omega arith; equal = rw (← a, ← q, not-false r h) at agree_first }
 
-  -- none is left
-  pub agree_all : (whole : Bool) → whole ≡ agree want type (walk size j c) → j ≤ 0 → true ≡ whole
-  unfolding agree walk
-  agree_all whole e h = sym (e ∙ go j h)
-    where
-      go : (j : ℕ) → j ≤ 0 → agree want type (walk size j c) ≡ true
-      go zero h = refl
-      go (suc j) h = absurd (not-suc-le-zero h)
+-- none is left
+pub agree_end : {want type : ℕ → ℕ} {n m : ℕ} {whole : Bool} {left : List (ℕ × ℕ)} (w : Agrees want type n m whole left) → left ≡ [] → true ≡ whole
+unfolding agree
+agree_end w e = rw (nodes_end w.nodes w.are e) at w.equal
 
 -- two readings that agree below i
 agree_same : (want type other size : ℕ → ℕ) (i : ℕ) → ((k : ℕ) → k < i → type k ≡ other k) → (m last : ℕ) → last < i

@@ -15,8 +15,8 @@ ghost use Rattle.check_scopes.specs.Counts.{Decls};
 use records::format::{
     MOST_NODES, TYPE_ANY, TYPE_BOOL, TYPE_INT, TYPE_NOTHING, TYPE_UNSET, VARIABLE_ENTRIES,
 };
-use records::nodes::{a_at, arity_at, b_at, kind_at, prior};
-use records::{Found, mask_of, minus, params_of, result_of, wide};
+use records::nodes::{a_at, b_at, children_of, kind_at};
+use records::{Found, mask_of, params_of, result_of, wide};
 
 // The type of parameter k by the masks of bool, array and grid parameters.
 pub fn mask_type(bools: u8, arrays: u8, grids: u8, k: usize) -> u8
@@ -27,6 +27,7 @@ pub fn mask_type(bools: u8, arrays: u8, grids: u8, k: usize) -> u8
 }
 
 // The type of parameter k of function f.
+#[tactic(auto, unfolding(spec_language::specs::Types::param_type))]
 pub fn param_type(file: &[u8], f: usize, k: usize) -> u8
     requires { (12 * (1 + f) + 12 ≤ length file.now) × (k < 8) }
     ensures { result ≡ param_type file.now f k }
@@ -57,6 +58,7 @@ pub fn var_type(
 }
 
 // The type that an operator gives.
+#[tactic(auto, unfolding(spec_language::specs::Types::operator_type))]
 pub fn operator_type(a: u8) -> u8
     ensures { result ≡ operator_type a }
 {
@@ -64,6 +66,7 @@ pub fn operator_type(a: u8) -> u8
 }
 
 // The type of node i of function f's part, of n nodes; by kind.
+#[tactic(auto, unfolding(spec_language::specs::Types::type_at, spec_language::specs::Types::types_of))]
 pub fn type_of(
     file: &[u8],
     f: usize,
@@ -95,6 +98,7 @@ pub fn type_of(
 }
 
 // What a condition wants of child k.
+#[tactic(auto, unfolding(spec_language::specs::Types::condition))]
 fn condition_type(k: usize) -> u8
     ensures { result ≡ condition k }
 {
@@ -102,6 +106,7 @@ fn condition_type(k: usize) -> u8
 }
 
 // The type that node i wants of child k; by kind.
+#[tactic(auto, unfolding(spec_language::specs::Types::want_at, spec_language::specs::Types::wants_of))]
 fn want_of(
     file: &[u8],
     f: usize,
@@ -135,6 +140,7 @@ fn want_of(
 }
 
 // Whether a type is the one wanted.
+#[tactic(auto, unfolding(spec_language::specs::Types::suits))]
 pub fn is_suited(want: u8, found: u8) -> bool
     ensures { result ≡ suits want found }
 {
@@ -157,21 +163,17 @@ fn children_agree(
     requires told { Decls part.now n decls.now }
     ensures { result ≡ agree (want_at file.now f part.now n i) (λ k. get_or types.now k 0) (children part.now i) }
 {
-    let mut j = arity_at(part, i);
-    let mut c = minus(i, 1);
-    while 0 < j {
-        j -= 1;
-        let want = want_of(file, f, part, n, decls, i, j);
-        if !is_suited(want, types[c]) {
+    for (k, child) in children_of(part, i) {
+        let want = want_of(file, f, part, n, decls, i, k);
+        if !is_suited(want, types[child]) {
             return false;
         }
-        c = prior(part, c);
     }
     true
 }
 
 // The lowest node of function f's part, of n nodes, with a child of another type than it wants.
-pub fn first_mistyped(file: &[u8], f: usize, part: &[u8], n: usize) -> Found
+pub fn first_mistyped(file: &[u8], f: usize, part: &[u8], n: usize) -> Option<Found>
     requires laid { Laid file.now × (f < functions file.now) }
     requires inside { (12 * n ≤ length part.now) × (n ≤ most_nodes) }
     requires known { Known part.now n × CallsKnown (functions file.now) part.now n }
@@ -179,13 +181,11 @@ pub fn first_mistyped(file: &[u8], f: usize, part: &[u8], n: usize) -> Found
 {
     let decls = check_scopes::decl_table(part, n);
     let mut types = [TYPE_UNSET; MOST_NODES];
-    let mut i = 0;
-    while i < n {
+    for i in 0..n {
         if !children_agree(file, f, part, n, &decls, &types, i) {
-            return Found::At(i, 0);
+            return Some(Found { place: i, item: 0 });
         }
         types[i] = type_of(file, f, part, n, &decls, i);
-        i += 1;
     }
-    Found::Nothing
+    None
 }

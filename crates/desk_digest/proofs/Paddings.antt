@@ -1,5 +1,6 @@
 -- Laws on the padded message: its length, and the byte at a place.
 use Rattle.std.proofs.Common.{◌≡◌, ℕ, zero, suc, ◌+◌, ◌-◌, ◌*◌, ◌/◌, ◌%◌, ◌^◌, ◌<◌, ◌≤◌, List, ◌∷◌, ◌++◌, length, get_or, replicate, sym, refl, ap, ◌∙◌, arith, length-append, get_or-append-add}
+use Rattle.std.specs.Int.{w64, to_be_bytes}
 use lib.ListN.{length-replicate, get_or-replicate, get_or-append}
 use lib.Seq.{get_or-append_seam}
 use Rattle.desk_digest.specs.Padding.{big_endian, zeros, padded}
@@ -85,14 +86,15 @@ at_length m i h l =
     rw (after_one m i h, e) (beyond _ _ _ j)
 
 -- the bytes of a number that was taken modulo 2 ^ 64
-pub byte_of : (x j : ℕ) → j < 8 → x % 2 ^ 64 / 2 ^ (56 - 8 * j) % 256 ≡ get_or (big_endian 8 x) j 0
+pub length_bytes_low : (x : ℕ) → to_be_bytes w64 (x % 2 ^ 64) ≡ big_endian 8 x
 unfolding big_endian
-byte_of x zero h = omega arith
-byte_of x (suc zero) h = omega arith
-byte_of x (suc (suc zero)) h = omega arith
-byte_of x (suc (suc (suc zero))) h = omega arith
-byte_of x (suc (suc (suc (suc zero)))) h = omega arith
-byte_of x (suc (suc (suc (suc (suc zero))))) h = omega arith
-byte_of x (suc (suc (suc (suc (suc (suc zero)))))) h = omega arith
-byte_of x (suc (suc (suc (suc (suc (suc (suc zero))))))) h = omega arith
-byte_of x (suc (suc (suc (suc (suc (suc (suc (suc j)))))))) h = absurd (omega arith)
+length_bytes_low x =
+    let a : x % 2 ^ 64 / 256 ^ 7 % 256 ≡ x / 256 ^ 7 % 256 = omega arith in
+    let b : x % 2 ^ 64 / 256 ^ 6 % 256 ≡ x / 256 ^ 6 % 256 = omega arith in
+    let c : x % 2 ^ 64 / 256 ^ 5 % 256 ≡ x / 256 ^ 5 % 256 = omega arith in
+    let d : x % 2 ^ 64 / 256 ^ 4 % 256 ≡ x / 256 ^ 4 % 256 = omega arith in
+    let e : x % 2 ^ 64 / 256 ^ 3 % 256 ≡ x / 256 ^ 3 % 256 = omega arith in
+    let f : x % 2 ^ 64 / 256 ^ 2 % 256 ≡ x / 256 ^ 2 % 256 = omega arith in
+    let g : x % 2 ^ 64 / 256 % 256 ≡ x / 256 % 256 = omega arith in
+    let h : x % 2 ^ 64 % 256 ≡ x / 1 % 256 = omega arith in
+    cc

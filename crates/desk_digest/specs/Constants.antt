@@ -1,6 +1,5 @@
 -- The constants of SHA-256, as in FIPS 180-4, sections 4.2.2 and 5.3.3.
 use Rattle.std.specs.Prelude.{ℕ, List, [], ◌∷◌}
-use Rattle.desk_digest.specs.declared.Eight.{Eight}
 
 -- K_0 to K_63: the first 32 bits of the fractional parts of the cube roots of the first 64 primes
 unfoldable pub constants : List ℕ
@@ -16,15 +15,5 @@ constants =
     ∷ []
 
 -- the initial hash value H(0): the first 32 bits of the fractional parts of the square roots of the first 8 primes
-unfoldable pub initial : Eight
-initial =
-    record {
-      a = 0x6a09e667;
-      b = 0xbb67ae85;
-      c = 0x3c6ef372;
-      d = 0xa54ff53a;
-      e = 0x510e527f;
-      f = 0x9b05688c;
-      g = 0x1f83d9ab;
-      h = 0x5be0cd19;
-    }
+unfoldable pub initial : List ℕ
+initial = 0x6a09e667 ∷ 0xbb67ae85 ∷ 0x3c6ef372 ∷ 0xa54ff53a ∷ 0x510e527f ∷ 0x9b05688c ∷ 0x1f83d9ab ∷ 0x5be0cd19 ∷ []

@@ -2,16 +2,15 @@
 #![tactic(auto)]
 
 ghost use Rattle.std.specs.Prelude.{◌≡◌, ◌*◌, ◌≤◌, length};
-ghost use Rattle.varset.specs.Lowest.{pick};
 ghost use Rattle.spec_language.specs.Scopes.{decl_count};
-ghost use Rattle.desk_faults.specs.Records.{first_fault, function_fault, node_fault};
+ghost use Rattle.desk_faults.specs.Records.{function_fault, node_fault};
 
 use records::format::{FUNCTION_MARK, MOST_PARAMETERS, MOST_VARIABLES, NODE_MARK};
 use records::nodes::{b_at, kind_at};
 use records::{count_of, mark_at, mask_fits, mask_of, params_of, result_of, u16_at, vars_of};
 
 // The first field of a function's record that is wrong.
-#[derive(Clone, Copy)]
+#[derive(Clone, Copy, Debug, PartialEq, Eq)]
 pub enum FunctionFault {
     Missing,
     Mark,
@@ -25,7 +24,7 @@ pub enum FunctionFault {
 }
 
 // What is wrong with a node's record: its mark, its kind, or a field that its kind has.
-#[derive(Clone, Copy)]
+#[derive(Clone, Copy, Debug, PartialEq, Eq)]
 pub enum NodeFault {
     Missing,
     Mark,
@@ -33,43 +32,8 @@ pub enum NodeFault {
     Fields,
 }
 
-// The first of the seven tests of a function's record that fails.
-fn first_fault(
-    mark: bool,
-    res: bool,
-    parameters: bool,
-    variables: bool,
-    mask: bool,
-    zeros: bool,
-    count: bool,
-) -> FunctionFault
-    ensures { result ≡ first_fault mark res parameters variables mask zeros count }
-{
-    if !mark {
-        return FunctionFault::Mark;
-    }
-    if !res {
-        return FunctionFault::Result;
-    }
-    if !parameters {
-        return FunctionFault::Parameters;
-    }
-    if !variables {
-        return FunctionFault::Variables;
-    }
-    if !mask {
-        return FunctionFault::Mask;
-    }
-    if !zeros {
-        return FunctionFault::Zeros;
-    }
-    if !count {
-        return FunctionFault::Count;
-    }
-    FunctionFault::Right
-}
-
-// What is wrong with the record of function f.
+// What is wrong with the record of function f: the first of its seven tests that fails.
+#[tactic(auto, using(std::proofs::lemmas::Bool::Decides::nat_tests), unfolding(crate::specs::Records::function_fault, crate::specs::Records::first_fault, spec_language::specs::Records::within))]
 pub fn function_fault(file: &[u8], f: usize) -> FunctionFault
     ensures { result ≡ function_fault file.now f }
 {
@@ -82,18 +46,32 @@ pub fn function_fault(file: &[u8], f: usize) -> FunctionFault
     }
     let p = params_of(file, f);
     let v = vars_of(file, f);
-    first_fault(
-        mark_at(file, 1 + f) == FUNCTION_MARK,
-        result_of(file, f) <= 2,
-        p <= MOST_PARAMETERS,
-        (p <= v) & (v <= MOST_VARIABLES),
-        mask_fits(mask_of(file, f), p),
-        u16_at(file, 12 * (1 + f) + 6) == 0,
-        1 <= count_of(file, f),
-    )
+    if mark_at(file, 1 + f) != FUNCTION_MARK {
+        return FunctionFault::Mark;
+    }
+    if result_of(file, f) > 2 {
+        return FunctionFault::Result;
+    }
+    if p > MOST_PARAMETERS {
+        return FunctionFault::Parameters;
+    }
+    if v < p || v > MOST_VARIABLES {
+        return FunctionFault::Variables;
+    }
+    if !mask_fits(mask_of(file, f), p) {
+        return FunctionFault::Mask;
+    }
+    if u16_at(file, 12 * (1 + f) + 6) != 0 {
+        return FunctionFault::Zeros;
+    }
+    if count_of(file, f) < 1 {
+        return FunctionFault::Count;
+    }
+    FunctionFault::Right
 }
 
 // What is wrong with the node at record k.
+#[tactic(auto, using(std::proofs::lemmas::Bool::Decides::nat_tests), unfolding(crate::specs::Records::node_fault))]
 pub fn node_fault(file: &[u8], k: usize) -> NodeFault
     ensures { result ≡ node_fault file.now k }
 {
@@ -109,23 +87,12 @@ pub fn node_fault(file: &[u8], k: usize) -> NodeFault
     NodeFault::Fields
 }
 
-// 1 where the test holds, else 0.
-fn one_where(test: bool) -> usize
-    ensures { (result ≡ pick test 1 0) × (result ≤ 1) }
-{
-    if test { 1 } else { 0 }
-}
-
 // How many of the first n nodes of a part declare variable x.
 pub fn declarations(part: &[u8], n: usize, x: u32) -> usize
     requires { 12 * n ≤ length part.now }
     ensures { result ≡ decl_count part.now n x }
 {
-    let mut count = 0;
-    let mut i = 0;
-    while i < n {
-        count += one_where((kind_at(part, i) == 9) & (b_at(part, i) == x));
-        i += 1;
-    }
-    count
+    (0..n)
+        .filter(|i| (kind_at(part, *i) == 9) & (b_at(part, *i) == x))
+        .count()
 }

@@ -1,144 +1,162 @@
 // A file's bytes by its name, or the error that the system gave, with the system's words for it, and names as they are printed.
 #![tactic(auto)]
 
-ghost use Rattle.std.specs.Prelude.{◌≤◌, length, nat_abs};
+ghost use Rattle.std.specs.Prelude.{◌≤◌, length};
 ghost use Rattle.desk_files.specs.Kept.{Inside};
 ghost use Rattle.desk_files.specs.Names.{Plain};
+ghost use Rattle.texts.specs.Room.{EndsInside};
 
 use std::fs::File;
 use std::io;
 use std::io::Read;
 use std::rt::Files;
-use texts::{put_numbered, put_word};
+use texts::Text;
 
 // The file that the name of one dash is read from: descriptor 3.
 const DASH: &str = "/proc/self/fd/3";
 
-// The numbers of four errors: no such file, a bad descriptor, an argument that is not valid, and a name that is no text.
-const NO_SUCH_FILE: i32 = 2;
-
-const BAD_DESCRIPTOR: i32 = 9;
-
-const NOT_VALID: i32 = 22;
-
-const NO_TEXT: i32 = 84;
-
-// How many bytes of a file are kept, or the number of the error that the system gave.
-#[derive(Clone, Copy)]
-pub enum Content {
-    Bytes(usize),
-    Failed(i32),
+// What kept a file from being read, by the number that the system gives it; it is never below 0.
+#[derive(Clone, Copy, PartialEq, Eq)]
+pub struct SystemError {
+    pub number: u32,
 }
 
-// The number of an error that came with one, and that of an argument that is not valid for any other.
-fn number_of(error: io::Error) -> i32 {
-    match error.raw_os_error() {
-        Some(number) => number,
-        None => NOT_VALID,
+// The errors that are named here: no such file, a bad descriptor, an argument that is not valid, a name that is too long, and one that
+// is no text.
+const NO_SUCH_FILE: SystemError = SystemError { number: 2 };
+
+const BAD_DESCRIPTOR: SystemError = SystemError { number: 9 };
+
+const NOT_VALID: SystemError = SystemError { number: 22 };
+
+pub const NAME_TOO_LONG: SystemError = SystemError { number: 36 };
+
+const NO_TEXT: SystemError = SystemError { number: 84 };
+
+// An error that came with a number has it, and any other is that of an argument that is not valid.
+impl From<io::Error> for SystemError {
+    fn from(error: io::Error) -> SystemError {
+        match error.raw_os_error() {
+            Some(number) => SystemError {
+                number: u32::try_from(number).unwrap_or(0),
+            },
+            None => NOT_VALID,
+        }
     }
 }
 
-// Reads a file from where it stands until the buffer is full or the file ends.
-fn read_file<F: Read>(source: &mut F, file: &mut [u8]) -> Content
+// Reads a file from where it stands until the buffer is full or the file ends, and answers how many bytes it keeps, which `read_exact`
+// does not say of a file that ends before.
+fn read_file<F: Read>(source: &mut F, file: &mut [u8]) -> Result<usize, SystemError>
     ensures { Inside result (length file.new) }
 {
     let mut n = 0;
     while n < file.len() {
-        match source.read(&mut file[n..]) {
-            Err(error) => return Content::Failed(number_of(error)),
-            Ok(0) => return Content::Bytes(n),
-            Ok(more) => n += more,
+        match source.read(&mut file[n..])? {
+            0 => return Ok(n),
+            more => n += more,
         }
     }
-    Content::Bytes(n)
-}
-
-// Whether a name is the one dash that stands for standard input.
-fn is_dash(name: &[u8]) -> bool {
-    if name.len() != 1 {
-        return false;
-    }
-    name[0] == b'-'
+    Ok(n)
 }
 
 // Opens, reads and closes the file of that path.
-fn content_at<R: Files>(rt: &R, path: &str, file: &mut [u8]) -> Content
+fn content_at<R: Files>(rt: &R, path: &str, file: &mut [u8]) -> Result<usize, SystemError>
     ensures { Inside result (length file.new) }
 {
-    match File::open(rt, path) {
-        Err(error) => Content::Failed(number_of(error)),
-        Ok(mut source) => read_file(&mut source, file),
-    }
+    let mut source = File::open(rt, path)?;
+    read_file(&mut source, file)
 }
 
 // Opens descriptor 3 anew and reads it: a pipe from where it stands, a file from its start. It is a bad descriptor where it is not open.
-fn content_of_dash<R: Files>(rt: &R, file: &mut [u8]) -> Content
+fn content_of_dash<R: Files>(rt: &R, file: &mut [u8]) -> Result<usize, SystemError>
     ensures { Inside result (length file.new) }
 {
-    let content = content_at(rt, DASH, file);
-    match content {
-        Content::Failed(NO_SUCH_FILE) => Content::Failed(BAD_DESCRIPTOR),
-        _ => content,
+    match content_at(rt, DASH, file) {
+        Err(NO_SUCH_FILE) => Err(BAD_DESCRIPTOR),
+        content => content,
     }
 }
 
 // Opens, reads and closes the file of that name; one dash is what descriptor 3 gives, since names come by standard input. A name
 // that is no UTF-8 opens nothing.
-pub fn content_of<R: Files>(rt: &R, name: &[u8], file: &mut [u8]) -> Content
+pub fn content_of<R: Files>(rt: &R, name: &[u8], file: &mut [u8]) -> Result<usize, SystemError>
     ensures { Inside result (length file.new) }
 {
-    if is_dash(name) {
+    if let b"-" = name {
         return content_of_dash(rt, file);
     }
     match str::from_utf8(name) {
-        Err(_) => Content::Failed(NO_TEXT),
+        Err(_) => Err(NO_TEXT),
         Ok(path) => content_at(rt, path, file),
     }
 }
 
-// The number of an error, which is never below 0.
-fn error_number(error: i32) -> usize
-    ensures { result ≤ nat_abs error }
-{
-    if 0 <= error { error as usize } else { 0 }
-}
-
 // Puts the system's words for an error, or its number where it is past the usual ones.
-pub fn put_error(out: &mut [u8], at: usize, error: i32) -> usize
-    ensures { result ≤ length out.new }
+pub fn put_error(out: &mut Text<'_>, error: SystemError)
+    ensures { EndsInside out.new.bytes.now out.new.used }
 {
-    let number = error_number(error);
-    if 40 < number {
-        return put_numbered(out, at, b"system error ", number as u64);
+    match error.number {
+        0 => out.put(b"Success"),
+        1 => out.put(b"Operation not permitted"),
+        2 => out.put(b"No such file or directory"),
+        3 => out.put(b"No such process"),
+        4 => out.put(b"Interrupted system call"),
+        5 => out.put(b"Input/output error"),
+        6 => out.put(b"No such device or address"),
+        7 => out.put(b"Argument list too long"),
+        8 => out.put(b"Exec format error"),
+        9 => out.put(b"Bad file descriptor"),
+        10 => out.put(b"No child processes"),
+        11 => out.put(b"Resource temporarily unavailable"),
+        12 => out.put(b"Cannot allocate memory"),
+        13 => out.put(b"Permission denied"),
+        14 => out.put(b"Bad address"),
+        15 => out.put(b"Block device required"),
+        16 => out.put(b"Device or resource busy"),
+        17 => out.put(b"File exists"),
+        18 => out.put(b"Invalid cross-device link"),
+        19 => out.put(b"No such device"),
+        20 => out.put(b"Not a directory"),
+        21 => out.put(b"Is a directory"),
+        22 => out.put(b"Invalid argument"),
+        23 => out.put(b"Too many open files in system"),
+        24 => out.put(b"Too many open files"),
+        25 => out.put(b"Inappropriate ioctl for device"),
+        26 => out.put(b"Text file busy"),
+        27 => out.put(b"File too large"),
+        28 => out.put(b"No space left on device"),
+        29 => out.put(b"Illegal seek"),
+        30 => out.put(b"Read-only file system"),
+        31 => out.put(b"Too many links"),
+        32 => out.put(b"Broken pipe"),
+        33 => out.put(b"Numerical argument out of domain"),
+        34 => out.put(b"Numerical result out of range"),
+        35 => out.put(b"Resource deadlock avoided"),
+        36 => out.put(b"File name too long"),
+        37 => out.put(b"No locks available"),
+        38 => out.put(b"Function not implemented"),
+        39 => out.put(b"Directory not empty"),
+        40 => out.put(b"Too many levels of symbolic links"),
+        number => out.put_numbered(b"system error ", number as u64),
     }
-    put_word(
-        out,
-        at,
-        b"Success;Operation not permitted;No such file or directory;No such process;Interrupted system call;Input/output error;No such device or address;Argument list too long;Exec format error;Bad file descriptor;No child processes;Resource temporarily unavailable;Cannot allocate memory;Permission denied;Bad address;Block device required;Device or resource busy;File exists;Invalid cross-device link;No such device;Not a directory;Is a directory;Invalid argument;Too many open files in system;Too many open files;Inappropriate ioctl for device;Text file busy;File too large;No space left on device;Illegal seek;Read-only file system;Too many links;Broken pipe;Numerical argument out of domain;Numerical result out of range;Resource deadlock avoided;File name too long;No locks available;Function not implemented;Directory not empty;Too many levels of symbolic links",
-        number,
-    )
 }
 
 // A byte as it is printed: a question mark for a control byte.
 fn plain(b: u8) -> u8
     ensures { 32 ≤ result }
 {
-    if b < 32 {
-        return b'?';
+    match b {
+        0..=31 | 127 => b'?',
+        _ => b,
     }
-    if b == 127 {
-        return b'?';
-    }
-    b
 }
 
 // Makes every control byte of a name a question mark, so that a name is part of one line.
 pub fn make_plain(name: &mut [u8])
     ensures { Plain name.new (length name.new) }
 {
-    let mut i = 0;
-    while i < name.len() {
+    for i in 0..name.len() {
         name[i] = plain(name[i]);
-        i += 1;
     }
 }

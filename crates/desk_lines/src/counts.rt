@@ -1,81 +1,101 @@
 // How many files passed, how many each question refused, and how many could not be read.
-ghost use Rattle.std.specs.Prelude.{◌≡◌, ◌+◌, ◌%◌, ◌^◌, ◌<◌, ◌≤◌, length, slice_index, slice_set};
+ghost use Rattle.std.specs.Prelude.{◌≡◌, ◌+◌, ◌-◌, ◌%◌, ◌^◌, ◌<◌, ◌≤◌, length, replicate, slice_index, slice_set};
+ghost use Rattle.texts.specs.Room.{Ends};
 
-use std::num::wrapping_add_u64;
-use texts::{put, put_numbered};
+use texts::Text;
 
-// The counters: files that passed, those that each of questions 1 to 14 refused, and those that could not be read.
-pub const COUNTERS: usize = 16;
+// How many questions the check asks.
+pub const QUESTIONS: usize = 14;
 
-pub const PASSED: usize = 0;
-
-pub const UNREAD: usize = 15;
-
-// A counter, 0 where there is none.
-fn counted(tally: &[u64], i: usize) -> u64 {
-    if i < tally.len() { tally[i] } else { 0 }
+// How many files passed, how many each question refused, the first question's first, and how many could not be read.
+#[derive(Clone, Copy)]
+pub struct Tally {
+    pub passed: u64,
+    pub refused: [u64; QUESTIONS],
+    pub unread: u64,
 }
 
-// Adds one to a counter.
-pub fn count(tally: &mut [u64], i: usize)
-    ensures { i < length tally.old → tally.new ≡ slice_set tally.old i ((slice_index tally.old i + 1) % 2 ^ 64) }
-{
-    if i < tally.len() {
-        tally[i] = wrapping_add_u64(tally[i], 1);
+impl Tally {
+    // A tally of no files.
+    pub fn new() -> Tally
+        ensures none { (result.passed ≡ 0) × (result.unread ≡ 0) }
+        ensures of_questions { result.refused ≡ replicate 14 0 }
+    {
+        Tally {
+            passed: 0,
+            refused: [0; QUESTIONS],
+            unread: 0,
+        }
     }
-}
 
-// How many files were refused.
-fn refused(tally: &[u64]) -> u64 {
-    let mut sum = 0;
-    let mut q = UNREAD;
-    while q > 1 {
-        q -= 1;
-        sum = wrapping_add_u64(sum, counted(tally, q));
+    // Counts a file that passed.
+    pub fn count_passed(&mut self)
+        ensures counted { self.new.passed ≡ (self.old.passed + 1) % 2 ^ 64 }
+        ensures others { (self.new.refused ≡ self.old.refused) × (self.new.unread ≡ self.old.unread) }
+    {
+        self.passed = self.passed.wrapping_add(1);
     }
-    sum
-}
 
-// Puts the line of a question that refused files.
-fn put_question(tally: &[u64], q: usize, out: &mut [u8], at: usize) -> usize {
-    let n = counted(tally, q);
-    if n == 0 {
-        return at;
+    // Counts a file by the question that refused it.
+    pub fn count_refused(&mut self, question: u8)
+        ensures counted { 1 ≤ question → question ≤ 14 → self.new.refused ≡ slice_set self.old.refused (question - 1) ((slice_index self.old.refused (question - 1) + 1) % 2 ^ 64) }
+        ensures others { (self.new.passed ≡ self.old.passed) × (self.new.unread ≡ self.old.unread) }
+    {
+        if (1 <= question) & (question <= 14) {
+            let i = question as usize - 1;
+            self.refused[i] = self.refused[i].wrapping_add(1);
+        }
     }
-    let a = put_numbered(out, at, b"refused by question ", q as u64);
-    let b = put_numbered(out, a, b": ", n);
-    put(out, b, b"\n")
+
+    // Counts a file that could not be read.
+    pub fn count_unread(&mut self)
+        ensures counted { self.new.unread ≡ (self.old.unread + 1) % 2 ^ 64 }
+        ensures others { (self.new.passed ≡ self.old.passed) × (self.new.refused ≡ self.old.refused) }
+    {
+        self.unread = self.unread.wrapping_add(1);
+    }
+
+    // How many files were refused.
+    fn all_refused(&self) -> u64 {
+        let mut sum = 0u64;
+        for n in &self.refused {
+            sum = sum.wrapping_add(*n);
+        }
+        sum
+    }
 }
 
 // Puts a line for each question that refused files.
-fn put_questions(tally: &[u64], out: &mut [u8], at: usize) -> usize {
-    let mut next = at;
-    let mut q = 1;
-    while q < UNREAD {
-        next = put_question(tally, q, out, next);
-        q += 1;
+fn put_questions(tally: &Tally, out: &mut Text<'_>) {
+    for (i, n) in tally.refused.iter().enumerate() {
+        if *n != 0 {
+            out.put_numbered(b"refused by question ", i as u64 + 1);
+            out.put_numbered(b": ", *n);
+            out.put(b"\n");
+        }
     }
-    next
 }
 
 // Puts the line with the counts of all files.
-fn put_total(passed: u64, denied: u64, unread: u64, out: &mut [u8], at: usize) -> usize
-    ensures { result ≤ length out.new }
+fn put_total(tally: &Tally, out: &mut Text<'_>)
+    ensures { Ends out.new.bytes.now out.new.used 10 }
 {
-    let files = wrapping_add_u64(passed, wrapping_add_u64(denied, unread));
-    let a = put_numbered(out, at, b"files: ", files);
-    let b = put_numbered(out, a, b", passed: ", passed);
-    let c = put_numbered(out, b, b", refused: ", denied);
-    let d = put_numbered(out, c, b", not read: ", unread);
-    put(out, d, b"\n")
+    let refused = tally.all_refused();
+    let files = tally
+        .passed
+        .wrapping_add(refused)
+        .wrapping_add(tally.unread);
+    out.put_numbered(b"files: ", files);
+    out.put_numbered(b", passed: ", tally.passed);
+    out.put_numbered(b", refused: ", refused);
+    out.put_numbered(b", not read: ", tally.unread);
+    out.put(b"\n");
 }
 
 // Puts the lines with the counts, that of all files last.
-pub fn put_counts(tally: &[u64], out: &mut [u8], at: usize) -> usize
-    ensures { result ≤ length out.new }
+pub fn put_counts(tally: &Tally, out: &mut Text<'_>)
+    ensures { Ends out.new.bytes.now out.new.used 10 }
 {
-    let lines = put_questions(tally, out, at);
-    let passed = counted(tally, PASSED);
-    let unread = counted(tally, UNREAD);
-    put_total(passed, refused(tally), unread, out, lines)
+    put_questions(tally, out);
+    put_total(tally, out);
 }

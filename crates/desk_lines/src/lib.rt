@@ -5,103 +5,99 @@ pub mod counts;
 pub mod objects;
 pub mod strings;
 
-ghost use Rattle.std.specs.Prelude.{◌≤◌, length};
+ghost use Rattle.std.specs.Prelude.{◌≡◌, Bool, true, false};
+ghost use Rattle.texts.specs.Room.{Ends};
 
 use check_file::Refusal;
+use desk_files::SystemError;
 use records::{edition_of, function_count};
-use texts::{put, put_numbered};
+use texts::Text;
 
-// How the desk speaks: whether it shows functions, leaves out files that pass, and writes objects.
+// What the desk writes of a file: a line, a line with the functions shown below it, or an object.
+#[derive(Clone, Copy)]
+pub enum Form {
+    Line,
+    Listing,
+    Object,
+}
+
+// How the desk speaks: in which form, and whether it leaves out files that pass.
 #[derive(Clone, Copy)]
 pub struct Style {
-    pub show: bool,
+    pub form: Form,
     pub quiet: bool,
-    pub json: bool,
 }
 
 // Puts all functions of a file, with no record marked.
-fn put_functions(file: &[u8], out: &mut [u8], at: usize) -> usize {
-    if file.len() < 12 {
-        return at;
+fn put_functions(file: &[u8], out: &mut Text<'_>)
+    ensures { Ends out.old.bytes.now out.old.used 10 → Ends out.new.bytes.now out.new.used 10 }
+{
+    if 12 <= file.len() {
+        for function in 0..function_count(file) {
+            desk_listing::put_function(file, function, 0, out);
+        }
     }
-    let functions = function_count(file);
-    let mut next = at;
-    let mut f = 0;
-    while f < functions {
-        next = desk_listing::put_function(file, f, 0, out, next);
-        f += 1;
-    }
-    next
 }
 
 // Puts the edition of a file, where it is not edition 0.
-fn put_edition(file: &[u8], out: &mut [u8], at: usize) -> usize {
-    if file.len() < 12 {
-        return at;
+fn put_edition(file: &[u8], out: &mut Text<'_>) {
+    if 12 <= file.len() {
+        let edition = edition_of(file);
+        if edition != 0 {
+            out.put_numbered(b", edition ", edition as u64);
+        }
     }
-    let edition = edition_of(file);
-    if edition == 0 {
-        return at;
-    }
-    put_numbered(out, at, b", edition ", edition as u64)
 }
 
-// Puts what is said of a file that passes.
-pub fn put_passed(
-    style: Style,
-    name: &[u8],
-    file: &[u8],
-    revision: &[u8],
-    out: &mut [u8],
-    at: usize,
-) -> usize
-    ensures { result ≤ length out.new }
+// Puts the line of a file that passes.
+fn put_passed_line(name: &[u8], file: &[u8], out: &mut Text<'_>)
+    ensures { Ends out.new.bytes.now out.new.used 10 }
+{
+    out.put(name);
+    out.put(b": passed");
+    put_edition(file, out);
+    out.put(b"\n");
+}
+
+// Puts what is said of a file that passes, which is nothing where those are left out.
+pub fn put_passed(style: Style, name: &[u8], file: &[u8], revision: &[u8], out: &mut Text<'_>)
+    ensures quiet { style.quiet ≡ true → (out.new.bytes.now ≡ out.old.bytes.now) × (out.new.used ≡ out.old.used) }
+    ensures said { style.quiet ≡ false → Ends out.new.bytes.now out.new.used 10 }
 {
     if style.quiet {
-        return put(out, at, b"");
+        return;
     }
-    if style.json {
-        return objects::put_passed(name, file, revision, out, at);
+    match style.form {
+        Form::Line => put_passed_line(name, file, out),
+        Form::Listing => {
+            put_passed_line(name, file, out);
+            put_functions(file, out);
+        }
+        Form::Object => objects::put_passed_object(name, file, revision, out),
     }
-    let a = put(out, at, name);
-    let b = put(out, a, b": passed");
-    let c = put_edition(file, out, b);
-    let d = put(out, c, b"\n");
-    if style.show {
-        let e = put_functions(file, out, d);
-        return put(out, e, b"");
-    }
-    d
 }
 
 // Puts a refusal's numbers and its sentence after the name.
-fn put_line(name: &[u8], file: &[u8], refusal: Refusal, out: &mut [u8], at: usize) -> usize
-    ensures { result ≤ length out.new }
+fn put_line(name: &[u8], file: &[u8], refusal: Refusal, out: &mut Text<'_>)
+    ensures { Ends out.new.bytes.now out.new.used 10 }
 {
-    let question = refusal.question;
-    let place = refusal.place;
-    let item = refusal.item;
-    let a = put(out, at, name);
-    let b = put_numbered(out, a, b": refused ", question as u64);
-    let c = put_numbered(out, b, b" place ", place as u64);
-    let d = put_numbered(out, c, b" item ", item as u64);
-    let e = put(out, d, b": ");
-    let f = desk_sentences::put_sentence(file, question, place, item, out, e);
-    put(out, f, b"\n")
+    out.put(name);
+    out.put_numbered(b": refused ", refusal.question as u64);
+    out.put_numbered(b" place ", refusal.place as u64);
+    out.put_numbered(b" item ", refusal.item as u64);
+    out.put(b": ");
+    desk_sentences::put_sentence(file, refusal.question, refusal.place, refusal.item, out);
+    out.put(b"\n");
 }
 
 // Puts the function that a refusal names; before question 9 the records may not make a tree.
-fn put_look(file: &[u8], refusal: Refusal, out: &mut [u8], at: usize) -> usize
-    ensures { result ≤ length out.new }
+fn put_look(file: &[u8], refusal: Refusal, out: &mut Text<'_>)
+    ensures { Ends out.new.bytes.now out.new.used 10 }
 {
     if refusal.question < 9 {
-        return put(
-            out,
-            at,
-            b"    no function is shown: the records of this file do not make one\n",
-        );
+        return out.put(b"    no function is shown: the records of this file do not make one\n");
     }
-    desk_listing::put_listing(file, refusal.place, out, at)
+    desk_listing::put_listing(file, refusal.place, out);
 }
 
 // Puts what is said of a file that is refused.
@@ -111,37 +107,37 @@ pub fn put_refused(
     file: &[u8],
     refusal: Refusal,
     revision: &[u8],
-    out: &mut [u8],
-    at: usize,
-) -> usize
-    ensures { result ≤ length out.new }
+    out: &mut Text<'_>,
+)
+    ensures { Ends out.new.bytes.now out.new.used 10 }
 {
-    if style.json {
-        return objects::put_refused(name, file, refusal, revision, out, at);
+    match style.form {
+        Form::Line => put_line(name, file, refusal, out),
+        Form::Listing => {
+            put_line(name, file, refusal, out);
+            put_look(file, refusal, out);
+        }
+        Form::Object => objects::put_refused_object(name, file, refusal, revision, out),
     }
-    let a = put_line(name, file, refusal, out, at);
-    if style.show {
-        return put_look(file, refusal, out, a);
-    }
-    a
 }
 
 // Puts what is said of a file that cannot be read.
 pub fn put_unread(
     style: Style,
     name: &[u8],
-    error: i32,
+    error: SystemError,
     revision: &[u8],
-    out: &mut [u8],
-    at: usize,
-) -> usize
-    ensures { result ≤ length out.new }
+    out: &mut Text<'_>,
+)
+    ensures { Ends out.new.bytes.now out.new.used 10 }
 {
-    if style.json {
-        return objects::put_unread(name, error, revision, out, at);
+    match style.form {
+        Form::Object => objects::put_unread_object(name, error, revision, out),
+        Form::Line | Form::Listing => {
+            out.put(name);
+            out.put(b": cannot be read: ");
+            desk_files::put_error(out, error);
+            out.put(b"\n");
+        }
     }
-    let a = put(out, at, name);
-    let b = put(out, a, b": cannot be read: ");
-    let c = desk_files::put_error(out, b, error);
-    put(out, c, b"\n")
 }

@@ -7,283 +7,206 @@
 pub mod lines;
 pub mod worklist;
 
-ghost use Rattle.std.specs.Prelude.{◌*◌, ◌<◌, ◌≤◌, length};
+ghost use Rattle.std.specs.Prelude.{◌<◌, ◌≤◌};
+ghost use Rattle.texts.specs.Room.{Ends};
 
 use crate::lines::{Subject, child_of, deeper, put_margin, put_piece, put_signature};
-use crate::worklist::{Pending, advance, frame_at, push};
+use crate::worklist::{Pending, Stack};
 use desk_places::Place;
-use records::minus;
 use records::nodes::{arity_at, kind_at};
-use std::num::{wrapping_add_usize, wrapping_sub_usize};
-use texts::{put, put_word, word_start};
+use texts::Text;
 
-// How many words of the stack are used, and how many bytes wait.
-#[derive(Clone, Copy)]
-struct Walk {
-    top: usize,
-    at: usize,
-}
+// More steps than any function takes: each takes a letter of a template.
+const MOST_STEPS: u32 = 1000000;
 
-// A byte of the templates, a semicolon past their end.
-fn byte_at(templates: &[u8], place: usize) -> u8 {
-    if place < templates.len() {
-        templates[place]
-    } else {
-        b';'
+// How a node of a kind is written as a statement; by kind.
+fn statement(kind: u8) -> &'static [u8] {
+    match kind {
+        6 => b"Lnop:",
+        7 => b"SS",
+        8 => b"LV = E:",
+        9 => b"M{NDY V:TM}N",
+        10 => b"Lif (E) {NTM} else {NTM}N",
+        11 => b"Lwhile (E) {NTM}N",
+        12 => b"Lreturn E:",
+        13 => b"Lassert(E):",
+        14 => b"LE:",
+        0..=5 | 15 => b"LXN",
+        _ => b"",
     }
 }
 
-// The template of a kind: those of statements stand before those of expressions.
-fn template_of(kind: u8, expression: bool) -> usize {
-    if expression {
-        kind as usize + 16
-    } else {
-        kind as usize
+// How a node of a kind is written as an expression; by kind.
+fn expression(kind: u8) -> &'static [u8] {
+    match kind {
+        0 => b"I",
+        1 => b"B",
+        2 => b"V",
+        3 => b"(E O E)",
+        4 => b"(E && E)",
+        5 => b"F(A)",
+        6 => b"nop",
+        7 => b"seq(A)",
+        8 => b"assign(V, A)",
+        9 => b"decl(V, Y, A)",
+        10 => b"if(A)",
+        11 => b"while(A)",
+        12 => b"return(A)",
+        13 => b"assert(A)",
+        14 => b"expr(A)",
+        15 => b"nothing",
+        _ => b"",
     }
+}
+
+// The letter or the sign that comes next in the template of a frame's node, and none at its end.
+fn next_letter(subject: Subject<'_>, frame: Pending) -> Option<u8>
+    requires { frame.node < subject.nodes }
+{
+    let kind = kind_at(subject.part, frame.node);
+    let template = if frame.expression {
+        expression(kind)
+    } else {
+        statement(kind)
+    };
+    template.get(frame.place).copied()
 }
 
 // Begins to write a node, as an expression or as a statement.
 fn enter(
-    templates: &[u8],
-    part: &[u8],
-    s: Subject,
+    subject: Subject<'_>,
     node: usize,
     expression: bool,
     depth: usize,
-    stack: &mut [usize],
-    out: &mut [u8],
-    w: Walk,
-) -> Walk
-    requires nodes_in_bounds { 12 * s.nodes ≤ length part.now }
-    requires node_lt_nodes { node < s.nodes }
-{
-    let frame = Pending {
+    stack: &mut Stack,
+    out: &mut Text<'_>,
+) {
+    stack.push(Pending {
         node,
         expression,
-        place: word_start(templates, template_of(kind_at(part, node), expression)),
+        place: 0,
         child: 0,
         depth,
-    };
-    Walk {
-        top: push(stack, w.top, frame),
-        at: put_word(
-            out,
-            w.at,
-            b";>>",
-            (expression & (node == s.marked)) as usize,
-        ),
+    });
+    if expression & (node == subject.marked) {
+        out.put(b">>");
     }
 }
 
-// Goes on with the next child of a frame: as an expression for E, else as a statement, deeper for T.
+// Goes on with the next child, as an expression or as a statement.
 fn enter_child(
-    templates: &[u8],
-    part: &[u8],
-    s: Subject,
-    f: Pending,
-    code: u8,
-    stack: &mut [usize],
-    out: &mut [u8],
-    w: Walk,
-) -> Walk
-    requires nodes_in_bounds { 12 * s.nodes ≤ length part.now }
-    requires node_lt_nodes { f.node < s.nodes }
+    subject: Subject<'_>,
+    frame: Pending,
+    expression: bool,
+    depth: usize,
+    stack: &mut Stack,
+    out: &mut Text<'_>,
+)
+    requires { frame.node < subject.nodes }
 {
-    let child = child_of(part, s.nodes, f.node, f.child);
-    let next = Walk {
-        top: advance(stack, w.top, f, wrapping_add_usize(f.child, 1)),
-        at: w.at,
-    };
-    if code == b'T' {
-        return enter(
-            templates,
-            part,
-            s,
-            child,
-            false,
-            deeper(f.depth),
-            stack,
-            out,
-            next,
-        );
-    }
-    enter(
-        templates,
-        part,
-        s,
-        child,
-        code == b'E',
-        f.depth,
-        stack,
-        out,
-        next,
-    )
+    let child = child_of(subject, frame.node, frame.child);
+    stack.advance(frame, frame.child.wrapping_add(1));
+    enter(subject, child, expression, depth, stack, out);
 }
 
 // Goes on with the next of the children that are written between commas, or past them.
-fn enter_argument(
-    templates: &[u8],
-    part: &[u8],
-    s: Subject,
-    f: Pending,
-    stack: &mut [usize],
-    out: &mut [u8],
-    w: Walk,
-) -> Walk
-    requires nodes_in_bounds { 12 * s.nodes ≤ length part.now }
-    requires node_lt_nodes { f.node < s.nodes }
+fn enter_argument(subject: Subject<'_>, frame: Pending, stack: &mut Stack, out: &mut Text<'_>)
+    requires { frame.node < subject.nodes }
 {
-    if arity_at(part, f.node) <= f.child {
-        return Walk {
-            top: advance(stack, w.top, f, f.child),
-            at: w.at,
-        };
+    if arity_at(subject.part, frame.node) <= frame.child {
+        return stack.advance(frame, frame.child);
     }
-    let child = child_of(part, s.nodes, f.node, f.child);
-    let again = Pending {
-        node: f.node,
-        expression: f.expression,
-        place: f.place,
-        child: wrapping_add_usize(f.child, 1),
-        depth: f.depth,
-    };
-    let next = Walk {
-        top: push(stack, w.top, again),
-        at: put_word(out, w.at, b";, ", (0 < f.child) as usize),
-    };
-    enter(templates, part, s, child, true, f.depth, stack, out, next)
+    let child = child_of(subject, frame.node, frame.child);
+    stack.push(Pending {
+        child: frame.child.wrapping_add(1),
+        ..frame
+    });
+    if 0 < frame.child {
+        out.put(b", ");
+    }
+    enter(subject, child, true, frame.depth, stack, out);
 }
 
 // Writes the node of a frame as an expression.
-fn enter_itself(
-    templates: &[u8],
-    part: &[u8],
-    s: Subject,
-    f: Pending,
-    stack: &mut [usize],
-    out: &mut [u8],
-    w: Walk,
-) -> Walk
-    requires nodes_in_bounds { 12 * s.nodes ≤ length part.now }
-    requires node_lt_nodes { f.node < s.nodes }
-{
-    let next = Walk {
-        top: advance(stack, w.top, f, f.child),
-        at: w.at,
-    };
-    enter(templates, part, s, f.node, true, f.depth, stack, out, next)
+fn enter_itself(subject: Subject<'_>, frame: Pending, stack: &mut Stack, out: &mut Text<'_>) {
+    stack.advance(frame, frame.child);
+    enter(subject, frame.node, true, frame.depth, stack, out);
 }
 
-// Takes one step with the frame on top: the next letter or sign of its template, or its end.
-fn step(
-    templates: &[u8],
-    part: &[u8],
-    s: Subject,
-    stack: &mut [usize],
-    out: &mut [u8],
-    w: Walk,
-) -> Walk
-    requires { 12 * s.nodes ≤ length part.now }
+// Takes one step with a frame: the next letter or sign of its template, or its end.
+fn step(subject: Subject<'_>, frame: Pending, stack: &mut Stack, out: &mut Text<'_>)
+    requires { frame.node < subject.nodes }
 {
-    let below = Walk {
-        top: minus(w.top, 5),
-        at: w.at,
-    };
-    let f = frame_at(stack, below.top);
-    if s.nodes <= f.node {
-        return below;
-    }
-    match byte_at(templates, f.place) {
-        b';' => Walk {
-            top: below.top,
-            at: put_word(
-                out,
-                w.at,
-                b";<<",
-                (f.expression & (f.node == s.marked)) as usize,
-            ),
-        },
-        b'A' => enter_argument(templates, part, s, f, stack, out, below),
-        b'E' => enter_child(templates, part, s, f, b'E', stack, out, below),
-        b'S' => enter_child(templates, part, s, f, b'S', stack, out, below),
-        b'T' => enter_child(templates, part, s, f, b'T', stack, out, below),
-        b'X' => enter_itself(templates, part, s, f, stack, out, below),
-        code => Walk {
-            top: advance(stack, below.top, f, f.child),
-            at: put_piece(part, s, f.node, f.depth, code, out, w.at),
-        },
-    }
-}
-
-// Writes the last node of a part, which is its body. Each step takes a letter of a template, so that far fewer steps than these are taken.
-fn put_body(templates: &[u8], part: &[u8], s: Subject, out: &mut [u8], at: usize) -> usize
-    requires nodes_in_bounds { 12 * s.nodes ≤ length part.now }
-    requires nodes_nonzero { 0 < s.nodes }
-{
-    let mut stack = [0usize; 20485];
-    let begun = Walk { top: 0, at };
-    let mut w = enter(
-        templates,
-        part,
-        s,
-        s.nodes - 1,
-        false,
-        1,
-        &mut stack,
-        out,
-        begun,
-    );
-    let mut left: usize = 1000000;
-    while left > 0 {
-        if w.top == 0 {
-            return w.at;
+    let depth = frame.depth;
+    match next_letter(subject, frame) {
+        None => {
+            if frame.expression & (frame.node == subject.marked) {
+                out.put(b"<<");
+            }
         }
-        w = step(templates, part, s, &mut stack, out, w);
-        left -= 1;
+        Some(b'A') => enter_argument(subject, frame, stack, out),
+        Some(b'E') => enter_child(subject, frame, true, depth, stack, out),
+        Some(b'S') => enter_child(subject, frame, false, depth, stack, out),
+        Some(b'T') => enter_child(subject, frame, false, deeper(depth), stack, out),
+        Some(b'X') => enter_itself(subject, frame, stack, out),
+        Some(code) => {
+            stack.advance(frame, frame.child);
+            put_piece(subject, frame.node, depth, code, out);
+        }
     }
-    w.at
 }
 
-// Puts a function, each node by the template of its kind, with the record at a place marked, or none for place 0; by kind.
-pub fn put_function(file: &[u8], function: usize, place: usize, out: &mut [u8], at: usize) -> usize
-    ensures { result ≤ length out.new }
+// Writes the last node of a part, which is its body.
+fn put_body(subject: Subject<'_>, out: &mut Text<'_>)
+    requires { 0 < subject.nodes }
+{
+    let mut stack = Stack::new();
+    enter(subject, subject.nodes - 1, false, 1, &mut stack, out);
+    for _ in 0..MOST_STEPS {
+        let Some(frame) = stack.pop() else {
+            return;
+        };
+        if frame.node < subject.nodes {
+            step(subject, frame, &mut stack, out);
+        }
+    }
+}
+
+// Puts a function, each node by the template of its kind, with the record at a place marked, or none for place 0.
+pub fn put_function(file: &[u8], function: usize, place: usize, out: &mut Text<'_>)
+    ensures { Ends out.new.bytes.now out.new.used 10 }
 {
     let extent = desk_places::part_extent(file, function);
     let start = extent.start;
     let count = extent.count;
     if count == 0 {
-        return put(out, at, b"    the function does not lie in the file\n");
+        return out.put(b"    the function does not lie in the file\n");
     }
     let a = 12 * start;
     let e = 12 * (start + count);
     let subject = Subject {
+        part: &file[a..e],
         nodes: count,
         first: start,
-        marked: wrapping_sub_usize(place, start),
+        marked: place.wrapping_sub(start),
     };
-    let begun = put_signature(file, function, place, out, at);
-    let written = put_body(
-        b"LXN;LXN;LXN;LXN;LXN;LXN;Lnop:;SS;LV = E:;M{NDY V:TM}N;Lif (E) {NTM} else {NTM}N;Lwhile (E) {NTM}N;Lreturn E:;Lassert(E):;LE:;LXN;I;B;V;(E O E);(E && E);F(A);nop;seq(A);assign(V, A);decl(V, Y, A);if(A);while(A);return(A);assert(A);expr(A);nothing",
-        &file[a..e],
-        subject,
-        out,
-        begun,
-    );
-    let margin = put_margin(0, false, 0, out, written);
-    put(out, margin, b"}\n")
+    put_signature(file, function, place, out);
+    put_body(subject, out);
+    put_margin(0, false, 0, out);
+    out.put(b"}\n");
 }
 
 // Puts the function that the record at a place belongs to, with that record marked.
-pub fn put_listing(file: &[u8], place: usize, out: &mut [u8], at: usize) -> usize
-    ensures { result ≤ length out.new }
+pub fn put_listing(file: &[u8], place: usize, out: &mut Text<'_>)
+    ensures { Ends out.new.bytes.now out.new.used 10 }
 {
     match desk_places::locate(file, place) {
-        Place::Function { function } => put_function(file, function, place, out, at),
+        Place::Function { function } => put_function(file, function, place, out),
         Place::Node {
             function,
             node: _,
             kind: _,
-        } => put_function(file, function, place, out, at),
-        _ => put(out, at, b"    no function has this record\n"),
+        } => put_function(file, function, place, out),
+        _ => out.put(b"    no function has this record\n"),
     }
 }

@@ -3,197 +3,164 @@
 // Small letters and signs stand for themselves; `:` is a semicolon and the end of a line, N the end of a line. L begins a line with
 // the node's record, D does so one level deeper, and M begins a line without a record. V is the node's variable, F its function,
 // O its operator, I its int, B its bool, Y its type.
-ghost use Rattle.std.specs.Prelude.{◌*◌, ◌<◌, ◌≤◌, length};
+ghost use Rattle.std.specs.Prelude.{◌≡◌, ◌*◌, ◌<◌, ◌≤◌, length};
+ghost use Rattle.texts.specs.Room.{Ends, EndsInside};
 
 use records::nodes::{a_at, arity_at, b_at, kind_at, prior, size_at};
-use records::{mask_of, minus, params_of, result_of};
-use std::num::wrapping_add_usize;
+use records::{mask_of, params_of, result_of};
+use texts::Text;
 use texts::kinds::put_operator;
-use texts::{put, put_decimal, put_int, put_numbered, put_word};
 
-// What is written: the number of nodes, the record of the first, and the node that is marked.
+// How many levels lines are indented at most.
+const DEEPEST: usize = 32;
+
+// What is written: the records of a function's nodes, how many there are, the record of the first, and the node that is marked.
 #[derive(Clone, Copy)]
-pub struct Subject {
+pub struct Subject<'a> {
+    pub part: &'a [u8],
     pub nodes: usize,
     pub first: usize,
     pub marked: usize,
-}
-
-// How many digits a record's number has, 0 where there is none.
-fn digits(n: usize) -> usize
-    ensures { result ≤ 4 }
-{
-    if n == 0 {
-        return 0;
-    }
-    if n < 10 {
-        return 1;
-    }
-    if n < 100 {
-        return 2;
-    }
-    if n < 1000 { 3 } else { 4 }
+    pub ghost whole: { 12 * nodes ≤ length part.now },
 }
 
 // One level deeper, as far as lines are indented.
 pub fn deeper(depth: usize) -> usize
     ensures { result ≤ 32 }
 {
-    if depth < 32 { depth + 1 } else { 32 }
+    if depth < DEEPEST { depth + 1 } else { DEEPEST }
 }
 
-// Puts the number of a record, and nothing where there is none.
-fn put_record(record: usize, out: &mut [u8], at: usize) -> usize
-    ensures { result ≤ length out.new }
-{
-    let next = put_word(out, at, b"    ;   ;  ; ;", digits(record));
-    if record == 0 {
-        return next;
+// Puts the number of a record four places wide, and spaces where there is none.
+fn put_record(record: usize, out: &mut Text<'_>) {
+    match record {
+        0 => return out.put(b"    "),
+        1..=9 => out.put(b"   "),
+        10..=99 => out.put(b"  "),
+        100..=999 => out.put(b" "),
+        _ => {}
     }
-    put_decimal(out, next, record as u64)
+    out.put_decimal(record as u64);
 }
 
-// Puts the first n bytes of a text, or all of it where it is shorter.
-fn put_first(text: &[u8], n: usize, out: &mut [u8], at: usize) -> usize
-    ensures { result ≤ length out.new }
+// Puts the indentation of a line.
+fn put_indentation(depth: usize, out: &mut Text<'_>)
+    ensures { EndsInside out.old.bytes.now out.old.used → EndsInside out.new.bytes.now out.new.used }
 {
-    if text.len() <= n {
-        return put(out, at, text);
+    for _ in 0..depth.min(DEEPEST) {
+        out.put(b"  ");
     }
-    let start = 0;
-    put(out, at, &text[start..n])
 }
 
 // Puts the start of a line: the mark, the number of the record and the indentation.
-pub fn put_margin(record: usize, marked: bool, depth: usize, out: &mut [u8], at: usize) -> usize
-    ensures { result ≤ length out.new }
+pub fn put_margin(record: usize, marked: bool, depth: usize, out: &mut Text<'_>)
+    ensures { EndsInside out.new.bytes.now out.new.used }
 {
-    let spaces = b"                                                                ";
-    let a = put_word(out, at, b"    ;  > ", marked as usize);
-    let b = put_record(record, out, a);
-    let c = put(out, b, b"  ");
-    put_first(spaces, wrapping_add_usize(depth, depth), out, c)
+    out.put_word(&["    ", "  > "], marked as usize);
+    put_record(record, out);
+    out.put(b"  ");
+    put_indentation(depth, out);
 }
 
 // Child k of node i, counted from the left.
-pub fn child_of(part: &[u8], n: usize, i: usize, k: usize) -> usize
-    requires n_in_bounds { 12 * n ≤ length part.now }
-    requires i_lt_n { i < n }
-    ensures { result < n }
+pub fn child_of(subject: Subject<'_>, i: usize, k: usize) -> usize
+    requires { i < subject.nodes }
+    ensures { result < subject.entry.nodes }
 {
-    let mut c = minus(i, 1);
-    let mut left = minus(arity_at(part, i), wrapping_add_usize(k, 1));
-    while left > 0 {
-        c = prior(part, c);
-        left -= 1;
+    let mut c = i.saturating_sub(1);
+    let left = arity_at(subject.part, i).saturating_sub(k.wrapping_add(1));
+    for _ in 0..left {
+        c = prior(subject.part, c);
     }
     c
 }
 
 // Whether the line that node i begins has the marked node: the node itself, or one of the expression on the line.
-fn line_marked(part: &[u8], n: usize, i: usize, marked: usize) -> bool
-    requires n_in_bounds { 12 * n ≤ length part.now }
-    requires i_lt_n { i < n }
+fn line_marked(subject: Subject<'_>, i: usize) -> bool
+    requires { i < subject.nodes }
 {
+    let part = subject.part;
+    let marked = subject.marked;
     if i == marked {
         return true;
     }
-    let kind = kind_at(part, i);
-    if kind == 9 {
-        return false;
-    }
-    if (10 <= kind) & (kind <= 11) {
-        let c = child_of(part, n, i, 0);
-        return (marked <= c) & (c < wrapping_add_usize(marked, size_at(part, c)));
-    }
-    (marked <= i) & (i < wrapping_add_usize(marked, size_at(part, i)))
+    let shown = match kind_at(part, i) {
+        9 => return false,
+        10..=11 => child_of(subject, i, 0),
+        _ => i,
+    };
+    (marked <= shown) & (shown < marked.wrapping_add(size_at(part, shown)))
 }
 
 // Puts the start of the line that node i begins: with its own record or, where the line has the marked node, with that one's.
-fn put_start(part: &[u8], s: Subject, i: usize, depth: usize, out: &mut [u8], at: usize) -> usize
-    requires nodes_in_bounds { 12 * s.nodes ≤ length part.now }
-    requires i_lt_nodes { i < s.nodes }
-    ensures { result ≤ length out.new }
+fn put_start(subject: Subject<'_>, i: usize, depth: usize, out: &mut Text<'_>)
+    requires { i < subject.nodes }
 {
-    let marked = line_marked(part, s.nodes, i, s.marked);
-    let shown = if marked { s.marked } else { i };
-    put_margin(wrapping_add_usize(s.first, shown), marked, depth, out, at)
+    let marked = line_marked(subject, i);
+    let shown = if marked { subject.marked } else { i };
+    put_margin(subject.first.wrapping_add(shown), marked, depth, out);
 }
 
 // Puts what a letter or a sign of a template stands for at node i.
-pub fn put_piece(
-    part: &[u8],
-    s: Subject,
-    i: usize,
-    depth: usize,
-    code: u8,
-    out: &mut [u8],
-    at: usize,
-) -> usize
-    requires nodes_in_bounds { 12 * s.nodes ≤ length part.now }
-    requires i_lt_nodes { i < s.nodes }
-    ensures { result ≤ length out.new }
+pub fn put_piece(subject: Subject<'_>, i: usize, depth: usize, code: u8, out: &mut Text<'_>)
+    requires { i < subject.nodes }
+    ensures { code ≡ 78 → Ends out.new.bytes.now out.new.used 10 }
 {
+    let part = subject.part;
     let b = b_at(part, i);
     match code {
-        b':' => put(out, at, b";\n"),
-        b'N' => put(out, at, b"\n"),
-        b'M' => put_margin(0, false, depth, out, at),
-        b'L' => put_start(part, s, i, depth, out, at),
+        b':' => out.put(b";\n"),
+        b'N' => out.put_byte(b'\n'),
+        b'M' => put_margin(0, false, depth, out),
+        b'L' => put_start(subject, i, depth, out),
         b'D' => put_margin(
-            wrapping_add_usize(s.first, i),
-            i == s.marked,
+            subject.first.wrapping_add(i),
+            i == subject.marked,
             deeper(depth),
             out,
-            at,
         ),
-        b'V' => put_numbered(out, at, b"x", b as u64),
-        b'F' => put_numbered(out, at, b"f", b as u64),
-        b'O' => put_operator(a_at(part, i), out, at),
-        b'I' => put_int(out, at, b),
-        b'B' => put_word(out, at, b"false;true", b as usize),
-        b'Y' => put_word(out, at, b"void;int;bool", a_at(part, i) as usize),
-        _ => put(out, at, &[code]),
+        b'V' => out.put_numbered(b"x", b as u64),
+        b'F' => out.put_numbered(b"f", b as u64),
+        b'O' => put_operator(a_at(part, i), out),
+        b'I' => out.put_int(b),
+        b'B' => out.put_word(&["false", "true"], b as usize),
+        b'Y' => out.put_word(&["void", "int", "bool"], a_at(part, i) as usize),
+        _ => out.put_byte(code),
     }
 }
 
 // Puts the parameters of a function between commas: its first n, whose types the mask has.
-fn put_parameters(n: u8, mask: u8, out: &mut [u8], at: usize) -> usize {
+fn put_parameters(n: u8, mask: u8, out: &mut Text<'_>) {
     let mut rest = mask;
-    let mut next = at;
-    let mut i = 0;
-    while i < n {
-        let a = put_word(out, next, b";, ", (0 < i) as usize);
-        let b = put_word(out, a, b"int ;bool ", (rest % 2) as usize);
-        next = put_numbered(out, b, b"x", i as u64);
+    for i in 0..n {
+        if 0 < i {
+            out.put(b", ");
+        }
+        out.put_word(&["int ", "bool "], (rest % 2) as usize);
+        out.put_numbered(b"x", i as u64);
         rest /= 2;
-        i += 1;
     }
-    next
 }
 
 // Puts a function's result, its name and its parameters.
-fn put_head(file: &[u8], function: usize, out: &mut [u8], at: usize) -> usize {
-    if minus(file.len() / 12, 1) <= function {
-        return at;
+fn put_head(file: &[u8], function: usize, out: &mut Text<'_>) {
+    if function < (file.len() / 12).saturating_sub(1) {
+        out.put_word(
+            &["void f", "int f", "bool f"],
+            result_of(file, function) as usize,
+        );
+        out.put_decimal(function as u64);
+        out.put(b"(");
+        put_parameters(params_of(file, function), mask_of(file, function), out);
     }
-    let a = put_word(
-        out,
-        at,
-        b"void f;int f;bool f",
-        result_of(file, function) as usize,
-    );
-    let b = put_decimal(out, a, function as u64);
-    let c = put(out, b, b"(");
-    put_parameters(params_of(file, function), mask_of(file, function), out, c)
 }
 
 // Puts the first line of a function.
-pub fn put_signature(file: &[u8], function: usize, place: usize, out: &mut [u8], at: usize) -> usize
-    ensures { result ≤ length out.new }
+pub fn put_signature(file: &[u8], function: usize, place: usize, out: &mut Text<'_>)
+    ensures { Ends out.new.bytes.now out.new.used 10 }
 {
-    let record = wrapping_add_usize(function, 1);
-    let a = put_margin(record, place == record, 0, out, at);
-    let b = put_head(file, function, out, a);
-    put(out, b, b") {\n")
+    let record = function.wrapping_add(1);
+    put_margin(record, place == record, 0, out);
+    put_head(file, function, out);
+    out.put(b") {\n");
 }

@@ -1,8 +1,8 @@
-// The nodes that are being written, on a stack of words: five for each.
-ghost use Rattle.std.specs.Prelude.{◌≡◌, ◌≤◌, length, slice_index};
+// The nodes that are being written, on a stack.
+ghost use Rattle.std.specs.Prelude.{◌≡◌, ◌+◌, ◌++◌, ◌∷◌, [], ◌<◌, ◌≤◌, length, take, option_to_list};
 
-use records::minus;
-use std::num::wrapping_add_usize;
+// How many nodes the stack has room for.
+pub const FRAMES: usize = 4097;
 
 // A node that is being written: whether as an expression, how far in its template, how many children of it, and how deep.
 #[derive(Clone, Copy)]
@@ -14,61 +14,62 @@ pub struct Pending {
     pub depth: usize,
 }
 
-// Stores a word of the stack.
-fn store(stack: &mut [usize], i: usize, word: usize) {
-    if i < stack.len() {
-        stack[i] = word;
+// The nodes that are being written, the innermost last.
+#[derive(Drop)]
+pub struct Stack {
+    pub frames: [Pending; FRAMES],
+    pub used: usize,
+    pub ghost inside: { used ≤ length frames },
+}
+
+impl Stack {
+    // A stack of no nodes.
+    pub fn new() -> Stack
+        ensures { result.used ≡ 0 }
+    {
+        let none = Pending {
+            node: 0,
+            expression: false,
+            place: 0,
+            child: 0,
+            depth: 0,
+        };
+        Stack {
+            frames: [none; FRAMES],
+            used: 0,
+        }
     }
-}
 
-// A word of the stack.
-fn load(stack: &[usize], i: usize) -> usize
-    ensures { result ≡ slice_index stack.now i }
-{
-    if i < stack.len() { stack[i] } else { 0 }
-}
-
-// Puts a frame on the stack, where there is room, and answers how many words are used.
-pub fn push(stack: &mut [usize], top: usize, f: Pending) -> usize
-    ensures { top ≤ length stack.old → result ≤ length stack.new }
-{
-    if minus(stack.len(), top) < 5 {
-        return top;
+    // Puts a frame on the stack, where there is room.
+    pub fn push(&mut self, frame: Pending)
+        ensures { self.old.used < length self.old.frames → take self.new.used self.new.frames ≡ take self.old.used self.old.frames ++ frame ∷ [] }
+    {
+        if self.used < FRAMES {
+            self.frames[self.used] = frame;
+            self.used += 1;
+        }
     }
-    store(stack, top, f.node);
-    store(stack, wrapping_add_usize(top, 1), f.expression as usize);
-    store(stack, wrapping_add_usize(top, 2), f.place);
-    store(stack, wrapping_add_usize(top, 3), f.child);
-    store(stack, wrapping_add_usize(top, 4), f.depth);
-    wrapping_add_usize(top, 5)
-}
 
-// The frame whose words begin at `base`.
-pub fn frame_at(stack: &[usize], base: usize) -> Pending
-    ensures { result.node ≡ slice_index stack.now base }
-{
-    Pending {
-        node: load(stack, base),
-        expression: load(stack, wrapping_add_usize(base, 1)) == 1,
-        place: load(stack, wrapping_add_usize(base, 2)),
-        child: load(stack, wrapping_add_usize(base, 3)),
-        depth: load(stack, wrapping_add_usize(base, 4)),
+    // Takes the last frame off the stack, if there is one.
+    pub fn pop(&mut self) -> Option<Pending>
+        ensures { take self.old.used self.old.frames ≡ take self.new.used self.new.frames ++ option_to_list result }
+    {
+        if self.used == 0 {
+            return None;
+        }
+        self.used -= 1;
+        Some(self.frames[self.used])
     }
-}
 
-// Puts a frame back with the next place of its template, and so many children written.
-pub fn advance(stack: &mut [usize], base: usize, f: Pending, child: usize) -> usize
-    ensures { base ≤ length stack.old → result ≤ length stack.new }
-{
-    push(
-        stack,
-        base,
-        Pending {
-            node: f.node,
-            expression: f.expression,
-            place: wrapping_add_usize(f.place, 1),
+    // Puts a frame back with the next place of its template, and so many children written.
+    pub fn advance(&mut self, frame: Pending, child: usize)
+        ensures { self.old.used < length self.old.frames → self.new.used ≡ self.old.used + 1 }
+    {
+        let next = Pending {
+            place: frame.place.wrapping_add(1),
             child,
-            depth: f.depth,
-        },
-    )
+            ..frame
+        };
+        self.push(next);
+    }
 }

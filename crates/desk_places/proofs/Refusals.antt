@@ -1,4 +1,5 @@
 -- The place of a refusal by question 7 to 14, located: the node, or the function, that fails the question.
+use Rattle.std.specs.Prelude.{None}
 use mathlib.Core.Path.{◌≡◌}
 use mathlib.Core.Bool.{Bool, false, not}
 use mathlib.Core.List.{List}
@@ -7,7 +8,6 @@ use native.Mathlib.Omega.{arith}
 use Rattle.records.specs.Fields.{functions, params_of, vars_of, count_of, kind_at}
 use Rattle.varset.specs.Sets.{below}
 use Rattle.records.specs.Parts.{start_of, part_of, Laid}
-use Rattle.records.specs.declared.Found.TheVariants.{Nothing}
 use Rattle.spec_language.specs.Statements.{statement_at}
 use Rattle.spec_language.specs.Flow.{returns}
 use Rattle.spec_language.specs.Nodes.{node_ok, size_ok, misplaced, outside, mistyped, answers}
@@ -45,7 +45,7 @@ function_named s R p g w =
     record { function = w.function; fails = w.fails.1; located = rw e (function_located s g w.function w.known) }
 
 -- a read without a value is a node of its function
-pub reads_inside : (s : List ℕ) → Laid s → (f : ℕ) → f < functions s → Finds s f 8 ≡ Nothing → (i : ℕ) → LacksIn s f i → i < count_of s f
+pub reads_inside : (s : List ℕ) → Laid s → (f : ℕ) → f < functions s → Finds s f 8 ≡ None → (i : ℕ) → LacksIn s f i → i < count_of s f
 unfolding answers
 reads_inside s g f l e i w =
     let n = count_of s f in

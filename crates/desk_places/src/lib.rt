@@ -31,9 +31,8 @@ fn locate_node(file: &[u8], place: usize, functions: usize) -> Place
     requires inside { (functions < place) × (12 * place + 12 ≤ length file.now) }
     ensures { result ≡ node_in file.now place (holder file.now place) }
 {
-    let mut f = 0;
     let mut start = 1 + functions;
-    while f < functions {
+    for f in 0..functions {
         let end = start + count_of(file, f);
         if place < end {
             return Place::Node {
@@ -43,12 +42,12 @@ fn locate_node(file: &[u8], place: usize, functions: usize) -> Place
             };
         }
         start = end;
-        f += 1;
     }
     Place::Outside
 }
 
 // Where a record of a file lies, for every number and every file.
+#[tactic(auto, using(std::proofs::lemmas::Bool::Decides::nat_tests), unfolding(crate::specs::Located::place_of))]
 pub fn locate(file: &[u8], place: usize) -> Place
     ensures { result ≡ place_of file.now place }
 {
@@ -74,15 +73,13 @@ fn start_of(file: &[u8], function: usize, functions: usize) -> usize
     ensures { (result ≡ start_of file.now function) × (result < 562949953421312) }
 {
     let mut start = 1 + functions;
-    let mut f = 0;
-    while f < function {
+    for f in 0..function {
         start += count_of(file, f);
-        f += 1;
     }
     start
 }
 
-// The first record of a function's part, and how many nodes it has.
+// The first record of a function's part, and how many nodes it has. Where there is no part it is empty: a caller takes no record then.
 #[derive(Clone, Copy)]
 pub struct Extent {
     pub start: usize,

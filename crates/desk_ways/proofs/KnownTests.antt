@@ -56,3 +56,7 @@ module _ (t : List ℕ) (n : ℕ) where
     where
       first : (a : ℕ) → (0 < a → 0 < i) → eqb a 0 || ltb 0 i ≡ true
       first a f = by (eqb a 0) (λ e. or_more (eqb a 0) (ltb 0 i) e) (λ e. or_last (eqb a 0) (ltb 0 i) (lt-ltb 0 i (f (omega (arith, eqb-false a 0 e)))))
+
+  -- so where a node fails its test, the part is not known
+  pub failing_test : (k : ℕ) × (k < n) × (known_node t k ≡ false) → (false ≡ true → Known t n) × (Known t n → false ≡ true)
+  failing_test f = (λ e. clash false e refl, λ h. clash (known_node t f.0) (known_tests h f.0 f.1) f.2)

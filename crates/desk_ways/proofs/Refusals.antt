@@ -3,7 +3,7 @@ use mathlib.Core.Path.{◌≡◌}
 use mathlib.Core.List.{List}
 use Prim.Native.Nat.{ℕ}
 use native.Mathlib.Omega.{arith}
-use Rattle.records.specs.Fields.{functions, count_of}
+use Rattle.records.specs.Fields.{count_of}
 use Rattle.records.specs.Parts.{start_of, part_of}
 use Rattle.spec_language.specs.Nodes.{node_ok, size_ok, answers}
 use Rattle.spec_language.specs.Check.{refused, check_of}

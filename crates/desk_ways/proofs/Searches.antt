@@ -1,26 +1,34 @@
--- What a loop that looks for a number that passes a test shows.
-use mathlib.Core.Path.{◌≡◌, refl}
-use mathlib.Core.Bool.{Bool, true, false, ◌||◌}
-use Prim.Native.Nat.{ℕ, zero, suc, ◌<◌}
-use native.Mathlib.Nat.{not-suc-le-zero}
-use native.Mathlib.Decide.{dec_lt}
-use native.Mathlib.Omega.{arith}
-use Rattle.records.proofs.Bools.{or_last}
-use Rattle.records.proofs.Loops.{Below}
+-- What a search over the numbers below a bound shows.
+use Rattle.std.proofs.Common.{◌≡◌, ℕ, zero, suc, ◌+◌, ◌<◌, Bool, true, false, ◌||◌, List, [], ◌∷◌, ◌++◌, refl, ap, ◌∙◌, subst, arith, add-zero, zero-add}
+use Rattle.std.specs.List.{list_any, list_all, range_with_len}
+use Rattle.std.proofs.lemmas.List.Folds.{list_any-append}
+use Rattle.records.proofs.Bools.{and_left, and_right}
 use Rattle.spec_language.specs.Nodes.{some}
 
--- where one of n numbers passes, some does
-pub some_at : (p : ℕ → Bool) (n i : ℕ) → i < n → p i ≡ true → some p n ≡ true
-unfolding some
-some_at p zero i l e = absurd (not-suc-le-zero l)
-some_at p (suc n) i l e = go (some_at p n i) (dec_lt i n)
-  where
-    go : (i < n → p i ≡ true → some p n ≡ true) → Dec (i < n) → p n || some p n ≡ true
-    go rest (yes h) = or_last (p n) (some p n) (rest h e)
-    go rest (no h) = let z : n ≡ i = omega arith in rw (z, e)
+-- each number that was asked passes
+pub each_passes : (p : ℕ → Bool) (a n : ℕ) → list_all p (range_with_len a n) ≡ true → (k : ℕ) → k < n → p (a + k) ≡ true
+each_passes p a zero e k h = absurd (omega arith)
+each_passes p a (suc n) e zero h = rw (add-zero a) (and_left (p a) _ e)
+each_passes p a (suc n) e (suc k) h =
+    let z : a + 1 + k ≡ a + suc k = omega arith in
+    subst (λ (i : ℕ). p i ≡ true) z (each_passes p (a + 1) n (and_right (p a) _ e) k (omega arith))
 
--- where none does, none does
-pub some-none : (p : ℕ → Bool) (n : ℕ) → Below p n → some p n ≡ false
+-- the numbers below n + 1
+range_more : (a n : ℕ) → range_with_len a (suc n) ≡ range_with_len a n ++ (a + n) ∷ []
+range_more a zero = rw (add-zero a)
+range_more a (suc n) =
+    let z : a + 1 + n ≡ a + suc n = omega arith in
+    ap (λ (x : List ℕ). a ∷ x) (range_more (a + 1) n ∙ rw z)
+
+-- whether some number passes, asked from the first one on
+pub some_of : (p : ℕ → Bool) (n : ℕ) → list_any p (range_with_len 0 n) ≡ some p n
 unfolding some
-some-none p zero b = refl
-some-none p (suc n) b = rw (b n (omega arith), some-none p n (λ k l. b k (omega arith)))
+some_of p zero = refl
+some_of p (suc n) =
+    ap (list_any p) (range_more 0 n) ∙ list_any-append p (range_with_len 0 n) ((0 + n) ∷ []) ∙ rw (some_of p n, zero-add n) (either (some p n) (p n))
+  where
+    either : (a b : Bool) → a || (b || false) ≡ b || a
+    either true true = refl
+    either true false = refl
+    either false true = refl
+    either false false = refl

@@ -1,12 +1,12 @@
 // The variables that have a value after a statement begun with a set of them.
-ghost use Rattle.std.specs.Prelude.{◌≡◌, List, ◌*◌, ◌≤◌, ◌<◌, length};
+ghost use Rattle.std.specs.Prelude.{◌≡◌, List, ◌<◌};
 ghost use Rattle.records.specs.Format.{most_variables};
 ghost use Rattle.varset.specs.Sets.{Set, has, none, without};
 ghost use Rattle.spec_language.specs.Statements.{Read, Statement, Seq, Decl, If, While, statement_at};
 ghost use Rattle.spec_language.specs.Flow.{leaves};
-ghost use Rattle.spec_language.specs.Known.{Known};
 ghost use Rattle.desk_ways.specs.Follows.{Follows};
 
+use crate::known::KnownPart;
 use records::nodes::{b_at, kind_at, prior};
 use varset::VarSet;
 
@@ -28,94 +28,75 @@ fn plain(left: VarSet) -> Flow
 }
 
 // One statement after another.
+#[tactic(auto, unfolding(spec_language::specs::Flow::declares, spec_language::specs::Flow::leaves))]
 fn in_sequence(first: Flow, second: Flow) -> Flow
     ensures { (s t : Statement) (d : Set) → Follows s d first → Follows t (leaves s d) second → Follows (Seq s t) d result }
 {
-    let a = first.declared;
-    let b = second.declared;
-    let left = second.left;
     Flow {
-        left,
-        declared: a.union(b),
+        left: second.left,
+        declared: first.declared.union(second.declared),
     }
 }
 
 // A statement in the scope of x.
+#[tactic(auto, unfolding(spec_language::specs::Flow::declares, spec_language::specs::Flow::leaves))]
 fn in_scope(inner: Flow, x: u32) -> Flow
     requires { x < most_variables }
     ensures { (s : Statement) (d : Set) → Follows s (without d x) inner → Follows (Decl x s) d result }
 {
-    let left = inner.left;
-    let declared = inner.declared;
-    let after = left.remove(x);
     Flow {
-        left: after,
-        declared: declared.insert(x),
+        left: inner.left.remove(x),
+        declared: inner.declared.insert(x),
     }
 }
 
 // Two branches.
+#[tactic(auto, unfolding(spec_language::specs::Flow::declares, spec_language::specs::Flow::leaves))]
 fn in_branches(first: Flow, second: Flow) -> Flow
     ensures { (e : List Read) (s t : Statement) (d : Set) → Follows s d first → Follows t d second → Follows (If e s t) d result }
 {
-    let p = first.left;
-    let q = second.left;
-    let a = first.declared;
-    let b = second.declared;
     Flow {
-        left: p.meet(q),
-        declared: a.union(b),
+        left: first.left.meet(second.left),
+        declared: first.declared.union(second.declared),
     }
 }
 
 // A loop's body, begun with the set.
+#[tactic(auto, unfolding(spec_language::specs::Flow::declares, spec_language::specs::Flow::leaves))]
 fn in_loop(body: Flow, set: VarSet) -> Flow
     ensures { (e : List Read) (s : Statement) → Follows s (has set.0) body → Follows (While e s) (has set.0) result }
 {
-    let declared = body.declared;
-    let kept = set.minus(declared);
     Flow {
-        left: kept,
-        declared,
+        left: set.minus(body.declared),
+        declared: body.declared,
     }
 }
 
 // What the statement at node i leaves, begun with the set; by kind.
-pub fn flow_from(part: &[u8], n: usize, i: usize, set: VarSet) -> Flow
-    requires inside { (12 * n ≤ length part.now) × (i < n) }
-    requires known { Known part.now n }
-    ensures { Follows (statement_at part.now i) (has set.0) result }
+#[tactic(auto, using(spec_language::proofs::KnownNodes::inner, spec_language::proofs::KnownNodes::named), unfolding(spec_language::specs::Known::names_variable, spec_language::specs::Scopes::uses_variable))]
+pub fn flow_from(part: KnownPart, i: usize, set: VarSet) -> Flow
+    requires { i < part.n }
+    ensures { Follows (statement_at part.entry.bytes.now i) (has set.0) result }
 {
-    let kind = kind_at(part, i);
+    let kind = kind_at(part.bytes, i);
     match kind {
         7 => {
             let b = i - 1;
-            let a = prior(part, b);
-            let first = flow_from(part, n, a, set);
-            let left = first.left;
-            in_sequence(first, flow_from(part, n, b, left))
+            let first = flow_from(part, prior(part.bytes, b), set);
+            in_sequence(first, flow_from(part, b, first.left))
         }
-        8 => {
-            let x = b_at(part, i);
-            let after = set.insert(x);
-            plain(after)
-        }
+        8 => plain(set.insert(b_at(part.bytes, i))),
         9 => {
-            let x = b_at(part, i);
-            let inside = set.remove(x);
-            in_scope(flow_from(part, n, i - 1, inside), x)
+            let x = b_at(part.bytes, i);
+            in_scope(flow_from(part, i - 1, set.remove(x)), x)
         }
         10 => {
             let b = i - 1;
-            let a = prior(part, b);
-            let first = flow_from(part, n, a, set);
-            in_branches(first, flow_from(part, n, b, set))
+            let first = flow_from(part, prior(part.bytes, b), set);
+            in_branches(first, flow_from(part, b, set))
         }
-        11 => in_loop(flow_from(part, n, i - 1, set), set),
-        12 => {
-            let all = set.union(VarSet::full());
-            plain(all)
-        }
+        11 => in_loop(flow_from(part, i - 1, set), set),
+        12 => plain(set.union(VarSet::full())),
         _ => plain(set),
     }
 }

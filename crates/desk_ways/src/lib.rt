@@ -9,11 +9,11 @@ ghost use Rattle.records.specs.Format.{most_variables};
 ghost use Rattle.varset.specs.Lowest.{pick};
 ghost use Rattle.spec_language.specs.Nodes.{some};
 ghost use Rattle.spec_language.specs.Scopes.{decl_of};
-ghost use Rattle.spec_language.specs.Known.{Known};
 ghost use Rattle.desk_ways.specs.Ways.{KnownRead, named_node, in_tree, apart, on_way, gives, uneven, gap_at, or_earlier, last_gap, way_to};
 
+use crate::flow::flow_from;
+use crate::known::{KnownPart, known_part};
 use check_scopes::is_under;
-use records::minus;
 use records::nodes::{b_at, kind_at, prior};
 use varset::VarSet;
 
@@ -27,16 +27,13 @@ pub enum Way {
     Unknown,
 }
 
-// The node that a way names, 0 where it names none.
+// The node that a way names, 0 where it names none: the number is added to a record's, and its contract bounds it by the read.
 pub fn named_node(way: Way) -> usize
     ensures { result ≡ named_node way }
 {
     match way {
-        Way::Straight => 0,
-        Way::First { node } => node,
-        Way::Second { node } => node,
-        Way::Loop { node } => node,
-        Way::Unknown => 0,
+        Way::First { node } | Way::Second { node } | Way::Loop { node } => node,
+        Way::Straight | Way::Unknown => 0,
     }
 }
 
@@ -56,117 +53,98 @@ fn is_apart(part: &[u8], k: usize, i: usize, j: usize) -> bool
     if kind_at(part, j) != 10 {
         return false;
     }
-    let second = minus(j, 1);
+    let second = j.saturating_sub(1);
     in_tree(part, prior(part, second), k) & in_tree(part, second, i)
 }
 
-// Whether an if of n nodes has node k in its first branch and node i in its second.
-fn some_apart(part: &[u8], n: usize, k: usize, i: usize) -> bool
-    requires { (12 * n ≤ length part.now) × (k < n) × (i < n) }
-    ensures { result ≡ some (apart part.now k i) n }
+// Whether an if of the part has node k in its first branch and node i in its second.
+fn some_apart(part: KnownPart, k: usize, i: usize) -> bool
+    requires { (k < part.n) × (i < part.n) }
+    ensures { result ≡ some (apart part.entry.bytes.now k i) part.entry.n }
 {
-    let mut j = 0;
-    while j < n {
-        if is_apart(part, k, i, j) {
-            return true;
-        }
-        j += 1;
-    }
-    false
+    (0..part.n).any(|j| is_apart(part.bytes, k, i, j))
 }
 
 // Whether the statement at node s gives x a value on each way through it.
-fn gives_value(part: &[u8], n: usize, x: u32, s: usize) -> bool
-    requires inside { (12 * n ≤ length part.now) × (s < n) × (x < most_variables) }
-    requires known { Known part.now n }
-    ensures { result ≡ gives part.now x s }
+#[tactic(auto, unfolding(crate::specs::Ways::gives))]
+fn gives_value(part: KnownPart, x: u32, s: usize) -> bool
+    requires { (s < part.n) × (x < most_variables) }
+    ensures { result ≡ gives part.entry.bytes.now x s }
 {
-    let flow = flow::flow_from(part, n, s, VarSet::empty());
-    let left = flow.left;
-    left.contains(x)
+    flow_from(part, s, VarSet::empty()).left.contains(x)
 }
 
 // The branch of the if at a node that gives no value where the other does.
+#[tactic(auto, unfolding(crate::specs::Ways::uneven))]
 fn uneven_branch(first: bool, second: bool, node: usize) -> Way
     ensures { result ≡ uneven first second node }
 {
-    if first {
-        if second {
-            return Way::Straight;
-        }
-        return Way::Second { node };
+    match (first, second) {
+        (true, false) => Way::Second { node },
+        (false, true) => Way::First { node },
+        _ => Way::Straight,
     }
-    if second {
-        return Way::First { node };
-    }
-    Way::Straight
 }
 
 // The way past node k that gives x no value where another gives one; by kind.
-fn gap_at(part: &[u8], n: usize, x: u32, k: usize) -> Way
-    requires inside { (12 * n ≤ length part.now) × (k < n) × (x < most_variables) }
-    requires known { Known part.now n }
-    ensures { result ≡ gap_at part.now x k }
+fn gap_at(part: KnownPart, x: u32, k: usize) -> Way
+    requires { (k < part.n) × (x < most_variables) }
+    ensures { result ≡ gap_at part.entry.bytes.now x k }
 {
-    let kind = kind_at(part, k);
-    let body = minus(k, 1);
+    let kind = kind_at(part.bytes, k);
+    let body = k.saturating_sub(1);
     match kind {
         10 => {
-            let first = gives_value(part, n, x, prior(part, body));
-            uneven_branch(first, gives_value(part, n, x, body), k)
+            let first = gives_value(part, x, prior(part.bytes, body));
+            uneven_branch(first, gives_value(part, x, body), k)
         }
         11 => {
-            if gives_value(part, n, x, body) {
-                return Way::Loop { node: k };
+            if gives_value(part, x, body) {
+                Way::Loop { node: k }
+            } else {
+                Way::Straight
             }
-            Way::Straight
         }
         _ => Way::Straight,
     }
 }
 
 // The first of two ways where it names a node, else the second.
+#[tactic(auto, unfolding(crate::specs::Ways::or_earlier))]
 fn or_earlier(late: Way, early: Way) -> Way
     ensures { result ≡ or_earlier late early }
 {
     match late {
         Way::Straight => early,
-        Way::First { node } => Way::First { node },
-        Way::Second { node } => Way::Second { node },
-        Way::Loop { node } => Way::Loop { node },
-        Way::Unknown => Way::Unknown,
+        _ => late,
     }
 }
 
 // The way past node k that gives x, whose decl is at d, no value, where k stands on the way to node i.
-fn gap_on_way(part: &[u8], n: usize, x: u32, d: usize, i: usize, k: usize) -> Way
-    requires inside { (12 * n ≤ length part.now) × (k < n) × (i < n) × (x < most_variables) }
-    requires known { Known part.now n }
-    requires told { (d ≡ decl_of part.now n x) × (12 * d + 12 ≤ length part.now) }
-    ensures { result ≡ pick (on_way part.now n x i k) (gap_at part.now x k) Way.Straight }
+fn gap_on_way(part: KnownPart, x: u32, d: usize, i: usize, k: usize) -> Way
+    requires inside { (k < part.n) × (i < part.n) × (x < most_variables) }
+    requires told { (d ≡ decl_of part.bytes.now part.n x) × (12 * d + 12 ≤ length part.bytes.now) }
+    ensures { result ≡ pick (on_way part.entry.bytes.now part.entry.n x i k) (gap_at part.entry.bytes.now x k) Way.Straight }
 {
-    if !is_under(part, d, k) {
+    if !is_under(part.bytes, d, k) {
         return Way::Straight;
     }
-    if some_apart(part, n, k, i) {
+    if some_apart(part, k, i) {
         return Way::Straight;
     }
-    gap_at(part, n, x, k)
+    gap_at(part, x, k)
 }
 
 // The last way before node i that gives x no value.
-fn last_gap(part: &[u8], n: usize, x: u32, i: usize) -> Way
-    requires inside { (12 * n ≤ length part.now) × (i < n) × (x < most_variables) }
-    requires known { Known part.now n }
-    ensures { result ≡ last_gap part.now n x i i }
+fn last_gap(part: KnownPart, x: u32, i: usize) -> Way
+    requires { (i < part.n) × (x < most_variables) }
+    ensures { result ≡ last_gap part.entry.bytes.now part.entry.n x i i }
 {
-    let decls = check_scopes::decl_table(part, n);
+    let decls = check_scopes::decl_table(part.bytes, part.n);
     let d = decls[x as usize];
     let mut way = Way::Straight;
-    let mut k = 0;
-    while k < i {
-        way = or_earlier(gap_on_way(part, n, x, d, i, k), way);
-        k += 1;
+    for k in 0..i {
+        way = or_earlier(gap_on_way(part, x, d, i, k), way);
     }
     way
 }
@@ -184,8 +162,8 @@ pub fn way_to(part: &[u8], n: usize, i: usize) -> Way
     if kind_at(part, i) != 2 {
         return Way::Unknown;
     }
-    if !known::are_known(part, n) {
-        return Way::Unknown;
+    match known_part(part, n) {
+        Some(known) => last_gap(known, b_at(part, i), i),
+        None => Way::Unknown,
     }
-    last_gap(part, n, b_at(part, i), i)
 }

@@ -1,4 +1,5 @@
 -- A step back: the words before the last step, tried by one step, and what is answered of them.
+use Rattle.std.specs.Prelude.{Ok, Err}
 use mathlib.Core.Path.{◌≡◌, refl, sym, ap, ◌∙◌}
 use mathlib.Core.Bool.{Bool, true, false, ◌&&◌}
 use mathlib.Core.List.{List, [], ◌++◌, append-nil}
@@ -35,11 +36,9 @@ use Rattle.check_file.specs.declared.Refusal.{Refusal}
 use Rattle.check_file.specs.Answers.{refusal_of}
 use Rattle.run_loop.specs.declared.Outcome.{Outcome}
 use Rattle.run_loop.specs.Runs.{HoldsFit, Ends}
-use Rattle.entry_log.specs.declared.BackReply.{BackReply}
-use Rattle.entry_log.specs.declared.BackReply.TheVariants.{Went, Refused}
 use Rattle.entry_log.specs.Logs.{went_back}
 use Rattle.run_loop.proofs.Holding.{words_held}
-use Rattle.entry_log.specs.Replies.{back_reply_of}
+use Rattle.entry_log.specs.Replies.{BackReply, back_reply_of}
 
 -- as many words as an image has are the image where they pass
 whole_image : (P : Program) (w : List ℕ) → length w ≡ size → fit_words P w ≡ true → w ≡ image (state_of w)
@@ -118,19 +117,19 @@ module _ (s m log : List ℕ) (used : ℕ) where
   abbrev pub Answers : BackReply → List ℕ → Type 0
   Answers r m' = (r ≡ back_reply_of (back_answer s m log used)) × (m' ≡ back_memory s m log used)
 
-  pub back_early : (r : Refusal) → memory_answer s m ≡ refused r.question r.place r.item → Answers (Refused r) m
+  pub back_early : (r : Refusal) → memory_answer s m ≡ refused r.question r.place r.item → Answers (Err r) m
   unfolding back_answer back_memory by_verdict written back_reply_of
   back_early r e = let q = back_refused s m log used _ _ _ e in (rw q, rw q)
 
   module _ (e : memory_answer s m ≡ accepted) where
     -- question 18 refuses
-    refused_last : (m' : List ℕ) → m' ≡ m → back_to (program_of s) m log used ≡ false → Answers (Refused (refusal_of 18 0 0)) m'
+    refused_last : (m' : List ℕ) → m' ≡ m → back_to (program_of s) m log used ≡ false → Answers (Err (refusal_of 18 0 0)) m'
     unfolding back_answer back_memory by_verdict written back_reply_of
     refused_last m' d t = let q = back_none s m log used e t in (rw q, d ∙ rw q)
 
     -- r is the bytes of the last record, and 0 where there is none
     module _ (r : ℕ) (q : r ≡ pick (has_record log used) (last_bytes log used) 0) where
-      pub no_record : r ≡ 0 → (m' : List ℕ) → m' ≡ m → Answers (Refused (refusal_of 18 0 0)) m'
+      pub no_record : r ≡ 0 → (m' : List ℕ) → m' ≡ m → Answers (Err (refusal_of 18 0 0)) m'
       unfolding back_to
       no_record z m' d = refused_last m' d (rw absent)
         where
@@ -161,11 +160,11 @@ module _ (s m log : List ℕ) (used : ℕ) where
 
         -- what it answers, and the memory m' after it
         module _ (b : Bool) (m' : List ℕ) (t : b ≡ back_to (program_of s) m log used) (w : m' ≡ went_back b m log used) where
-          pub not_back : b ≡ false → (l : List ℕ) → l ≡ m' → Answers (Refused (refusal_of 18 0 0)) l
+          pub not_back : b ≡ false → (l : List ℕ) → l ≡ m' → Answers (Err (refusal_of 18 0 0)) l
           unfolding went_back
           not_back y l d = refused_last l (d ∙ w ∙ rw y) (sym t ∙ y)
 
-          pub went_back_lem : b ≡ true → Answers (Went (used - r)) m'
+          pub went_back_lem : b ≡ true → Answers (Ok (used - r)) m'
           unfolding back_to back_answer back_memory by_verdict written back_reply_of went_back words_before
           went_back_lem y =
               let x : List ℕ = earlier log used (take size m) in

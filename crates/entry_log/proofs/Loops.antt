@@ -1,4 +1,5 @@
 -- A logged run step by step.
+use Rattle.std.specs.Prelude.{Err}
 use mathlib.Core.Path.{◌≡◌, refl, sym, ap, ◌∙◌}
 use mathlib.Core.Bool.{true, false}
 use mathlib.Core.List.{List, ◌++◌}
@@ -31,7 +32,7 @@ use Rattle.log_records.specs.declared.extent.Extent.{Extent}
 use Rattle.entry_log.specs.declared.Stop.{Stop}
 use Rattle.entry_log.specs.declared.Stop.TheVariants.{Ended, LogFull}
 use Rattle.entry_log.specs.Replies.{stop_of}
-use Rattle.entry_log.specs.Logs.{Taken, Standing, Crowded, Stops}
+use Rattle.entry_log.specs.Logs.{Taken, Standing, Crowded, StepLogged, Stops}
 use Rattle.entry_log.proofs.Steps.{first_words, one_fit}
 
 module _ (P : Program) (a : ℕ) (s : State) (log : List ℕ) (used : ℕ) where
@@ -165,6 +166,13 @@ module _ (b : List ℕ) (small : Bytes b) (c : check_of b ≡ accepted) {m₀ be
         let t = g.reached s₀ R e f in
         let k = h t.state R t.held t.fit in
         ended s₀ R t spec.LogFull (rw (left l) (full (program_of b) (allowed - (steps + 1)) t.state log next k.stepped k.large)) refl k.held k.logged
+
+    -- for either reason
+    pub ended_early : (stop : Stop) (before' : List ℕ) {m' log' : List ℕ} (s₀ : State) (R : List ℕ) → m₀ ≡ image s₀ ++ R → Fit (program_of b) s₀
+        → ((s : State) (R : List ℕ) → m ≡ image s ++ R → Fit (program_of b) s → StepLogged (program_of b) s R log next (Err stop) m' before' log')
+        → Stops 0 (log_of (program_of b) allowed s₀ log₀ used) stop steps next m' R log'
+    ended_early (Ended o) before' s₀ R e f h = ended_standing s₀ R e f h
+    ended_early LogFull before' s₀ R e f h = ended_crowded s₀ R e f h
 
   -- because all are taken
   pub ended_spent : {o : Outcome} {n : ℕ} {m' : List ℕ} (s₀ : State) (R : List ℕ) → allowed ≤ steps → m₀ ≡ image s₀ ++ R → Fit (program_of b) s₀

@@ -1,5 +1,5 @@
 -- A logged run in lent memory, and the memory after a step back.
-use Rattle.std.specs.Prelude.{◌≡◌, Bool, true, false, List, ◌++◌, ℕ, ◌+◌, ◌-◌, leb, length, drop}
+use Rattle.std.specs.Prelude.{◌≡◌, Bool, true, false, Result, Ok, Err, List, ◌++◌, ℕ, ◌+◌, ◌-◌, leb, length, drop}
 use Rattle.varset.specs.Lowest.{pick}
 use Rattle.words.specs.Blocks.{puts}
 use Rattle.spec_machine.specs.Program.{Program}
@@ -15,8 +15,8 @@ use Rattle.run_loop.specs.Runs.{outcome_of}
 use Rattle.log_records.specs.Ranges.{Within}
 use Rattle.log_records.specs.declared.extent.Extent.{Extent}
 use Rattle.entry_log.specs.declared.Stop.{Stop}
-use Rattle.entry_log.specs.declared.LogStep.{LogStep}
-use Rattle.entry_log.specs.declared.LogStep.TheVariants.{Took, Stood, NoRoom}
+use Rattle.entry_log.specs.declared.Stop.TheVariants.{Ended, LogFull}
+use Rattle.entry_log.specs.declared.LoggedStep.{LoggedStep}
 use Rattle.entry_log.specs.Replies.{stop_of}
 
 module _ (P : Program) (s : State) (R log : List ℕ) (used : ℕ) where
@@ -52,10 +52,10 @@ module _ (P : Program) (s : State) (R log : List ℕ) (used : ℕ) where
     pub logged : log' ≡ log
 
   -- by what the code says of it
-  abbrev pub StepLogged : LogStep → List ℕ → List ℕ → List ℕ → Type 0
-  StepLogged (Took extent bytes) m before log' = Taken extent bytes m before log'
-  StepLogged (Stood outcome) m before log' = Standing outcome m log'
-  StepLogged NoRoom m before log' = Crowded m log'
+  abbrev pub StepLogged : Result LoggedStep Stop → List ℕ → List ℕ → List ℕ → Type 0
+  StepLogged (Ok taken) m before log' = Taken taken.extent taken.bytes m before log'
+  StepLogged (Err (Ended outcome)) m before log' = Standing outcome m log'
+  StepLogged (Err LogFull) m before log' = Crowded m log'
 
 -- stop, steps, used length, memory and log of a logged run, after k steps before it
 pub record Stops (k : ℕ) (q : spec.Logged) (stop : Stop) (steps used : ℕ) (m R log : List ℕ) : Type 0 where

@@ -15,7 +15,7 @@ ghost use Rattle.log_records.specs.Ranges.{Within};
 ghost use Rattle.entry_log.specs.Logs.{StepLogged, Stops, went_back};
 ghost use Rattle.entry_log.specs.Replies.{log_reply_of, SmallLogReply, back_reply_of, SmallBackReply};
 
-use check_file::{Answer, Refusal};
+use check_file::Refusal;
 use log_records::extent::{Extent, extent_of, joined};
 use log_records::images::{copy, is_same};
 use log_records::last::{last_bytes, restore};
@@ -37,26 +37,11 @@ pub struct Logged {
     pub used: usize,
 }
 
-// What a logged run answers: how it stopped, or why it was refused.
+// A step that was taken and logged: what the state after it fills, and the bytes of its record.
 #[derive(Clone, Copy)]
-pub enum LogReply {
-    Stopped(Logged),
-    Refused(Refusal),
-}
-
-// What a step back answers: how much of the log is used then, or why it was refused.
-#[derive(Clone, Copy)]
-pub enum BackReply {
-    Went(usize),
-    Refused(Refusal),
-}
-
-// What came of one step that is to be logged: it was taken, with so many bytes of the log; the run stands; or the log has no room.
-#[derive(Clone, Copy)]
-pub enum LogStep {
-    Took(Extent, usize),
-    Stood(Outcome),
-    NoRoom,
+pub struct LoggedStep {
+    pub extent: Extent,
+    pub bytes: usize,
 }
 
 // Takes one rule from the state in the memory, of which `before` is a copy, and puts its record; where that does not fit, nothing is done.
@@ -67,14 +52,14 @@ fn log_step(
     extent: Extent,
     log: &mut [u8],
     used: usize,
-) -> LogStep
+) -> Result<LoggedStep, Stop>
     requires { HoldsFit file.now m.old × (size ≤ length m.old) × (before.old ≡ take size m.old) × Within extent.low extent.high before.old }
     ensures { (s : State) (R : List ℕ) → m.old ≡ image s ++ R → Fit (program_of file.now) s → StepLogged (program_of file.now) s R log.old used result m.new before.new log.new }
 {
     let ran = run_loop::run(file, m, 1);
     if ran.steps == 0 {
         let outcome = ran.outcome;
-        return LogStep::Stood(outcome);
+        return Err(Stop::Ended(outcome));
     }
     let after = extent_of(m);
     let both = joined(extent, after);
@@ -84,10 +69,13 @@ fn log_step(
     let bytes = log_records::record_bytes(k);
     if log.len() < used || log.len() - used < bytes {
         copy(&mut m[..IMAGE_WORDS], before);
-        return LogStep::NoRoom;
+        return Err(Stop::LogFull);
     }
     log_records::put_record(log, used, before, &m[..IMAGE_WORDS], low, high, k);
-    LogStep::Took(after, bytes)
+    Ok(LoggedStep {
+        extent: after,
+        bytes,
+    })
 }
 
 // Takes rules one by one from the state in the memory, of which `before` is a copy, with a record for each.
@@ -107,21 +95,14 @@ fn log_steps(
     let mut steps = 0;
     while steps < allowed {
         match log_step(file, m, before, extent, log, next) {
-            LogStep::Took(after, bytes) => {
-                extent = after;
-                next += bytes;
+            Ok(taken) => {
+                extent = taken.extent;
+                next += taken.bytes;
                 steps += 1;
             }
-            LogStep::Stood(outcome) => {
+            Err(stop) => {
                 return Logged {
-                    stop: Stop::Ended(outcome),
-                    steps,
-                    used: next,
-                };
-            }
-            LogStep::NoRoom => {
-                return Logged {
-                    stop: Stop::LogFull,
+                    stop,
                     steps,
                     used: next,
                 };
@@ -148,16 +129,20 @@ fn log_run(file: &[u8], m: &mut [u32], allowed: u64, log: &mut [u8], used: usize
 }
 
 // Runs the file's procedure in the memory for so many steps and logs each: questions 1 to 16, and where all pass, rules of the machine.
-pub fn run_logged(file: &[u8], m: &mut [u32], allowed: u64, log: &mut [u8], used: usize) -> LogReply
+pub fn run_logged(
+    file: &[u8],
+    m: &mut [u32],
+    allowed: u64,
+    log: &mut [u8],
+    used: usize,
+) -> Result<Logged, Refusal>
     ensures answer { result ≡ log_reply_of (log_answer file.now m.old allowed log.old used) }
     ensures small { SmallLogReply result }
     ensures memory { m.new ≡ log_memory file.now m.old allowed log.old used }
     ensures log { log.new ≡ log_after file.now m.old allowed log.old used }
 {
-    if let Answer::Refused(refusal) = entry_memory::check_memory(file, m) {
-        return LogReply::Refused(refusal);
-    }
-    LogReply::Stopped(log_run(file, m, allowed, log, used))
+    entry_memory::check_memory(file, m)?;
+    Ok(log_run(file, m, allowed, log, used))
 }
 
 // Goes back by the last record, if that leads to a fit state whose one step leads to this memory.
@@ -181,21 +166,15 @@ fn go_back(file: &[u8], m: &mut [u32], log: &[u8], used: usize) -> bool
 }
 
 // Takes the state in the memory one step back: questions 1 to 16 and 18, and where all pass, the state before the last record's step.
-pub fn step_back(file: &[u8], m: &mut [u32], log: &[u8], used: usize) -> BackReply
+pub fn step_back(file: &[u8], m: &mut [u32], log: &[u8], used: usize) -> Result<usize, Refusal>
     ensures answer { result ≡ back_reply_of (back_answer file.now m.old log.now used) }
     ensures small { SmallBackReply result }
     ensures memory { m.new ≡ back_memory file.now m.old log.now used }
 {
-    if let Answer::Refused(refusal) = entry_memory::check_memory(file, m) {
-        return BackReply::Refused(refusal);
-    }
+    entry_memory::check_memory(file, m)?;
     let bytes = last_bytes(log, used);
     if bytes == 0 || !go_back(file, m, log, used) {
-        return BackReply::Refused(Refusal {
-            question: 18,
-            place: 0,
-            item: 0,
-        });
+        return Err(Refusal::whole(18));
     }
-    BackReply::Went(used - bytes)
+    Ok(used - bytes)
 }

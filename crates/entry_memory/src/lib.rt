@@ -1,7 +1,7 @@
 // The entry points that only read lent memory: the memory check and look-up.
 #![tactic(auto)]
 
-ghost use Rattle.std.specs.Prelude.{◌≡◌, true, ◌≤◌, length};
+ghost use Rattle.std.specs.Prelude.{◌≡◌, true, Ok, ◌≤◌, length};
 ghost use Rattle.spec_language.specs.Check.{accepted, check_of};
 ghost use Rattle.check_file.specs.Answers.{says, Small};
 ghost use Rattle.spec_machine.specs.Run.{look_up};
@@ -14,17 +14,16 @@ ghost use Rattle.fit_state.specs.HoldsState.{HoldsState};
 ghost use Rattle.spec_answers.specs.Answers.{memory_answer, granted, is_present, value_or, look_answer};
 ghost use Rattle.entry_memory.specs.Looks.{look_of, SmallLook};
 
-use check_file::{Answer, Refusal};
+use check_file::Refusal;
 use state_words::Value;
 use state_words::layout::{IMAGE_WORDS, TAG_RUNNING};
 
-// What look-up gives: nothing, an int, a bool, or a refusal.
+// What look-up tells of a variable: nothing, an int or a bool.
 #[derive(Clone, Copy)]
 pub enum Look {
     Nothing,
     Int(i32),
     Truth(bool),
-    Refused(Refusal),
 }
 
 // Whether the first 16,384 words hold the image of a state that is fit for the file's program.
@@ -39,28 +38,18 @@ pub fn holds_fit(file: &[u8], m: &[u32]) -> bool
 }
 
 // Checks a memory: questions 1 to 16.
-pub fn check_memory(file: &[u8], m: &[u32]) -> Answer
+pub fn check_memory(file: &[u8], m: &[u32]) -> Result<(), Refusal>
     ensures answer { says result ≡ memory_answer file.now m.now }
     ensures small { Small result }
 {
-    if let Answer::Refused(refusal) = check_file::check(file) {
-        return Answer::Refused(refusal);
-    }
+    check_file::check(file)?;
     if m.len() < IMAGE_WORDS {
-        return Answer::Refused(Refusal {
-            question: 15,
-            place: 0,
-            item: 0,
-        });
+        return Err(Refusal::whole(15));
     }
     if !holds_fit(file, m) {
-        return Answer::Refused(Refusal {
-            question: 16,
-            place: 0,
-            item: 0,
-        });
+        return Err(Refusal::whole(16));
     }
-    Answer::Accepted
+    Ok(())
 }
 
 // Whether the current activation of the state in the memory has variable x.
@@ -84,10 +73,9 @@ fn value_in(m: &[u32], x: u32) -> Value
     state_words::activations::variable(m, a, x as usize)
 }
 
-// The answer that tells a value.
-fn look_of(v: Value) -> Look
-    ensures answer { result ≡ look_of (granted (value_is v)) }
-    ensures small { SmallLook result }
+// What is told of a value.
+fn tell(v: Value) -> Look
+    ensures { Ok result ≡ look_of (granted (value_is v)) }
 {
     match v {
         Value::Nothing => Look::Nothing,
@@ -100,19 +88,13 @@ fn look_of(v: Value) -> Look
 }
 
 // Looks up variable x of the current activation: questions 1 to 17, and where all pass, what it holds.
-pub fn look_up(file: &[u8], m: &[u32], x: u32) -> Look
+pub fn look_up(file: &[u8], m: &[u32], x: u32) -> Result<Look, Refusal>
     ensures answer { result ≡ look_of (look_answer file.now m.now x) }
     ensures small { SmallLook result }
 {
-    if let Answer::Refused(refusal) = check_memory(file, m) {
-        return Look::Refused(refusal);
-    }
+    check_memory(file, m)?;
     if !has_variable(m, x) {
-        return Look::Refused(Refusal {
-            question: 17,
-            place: 0,
-            item: 0,
-        });
+        return Err(Refusal::whole(17));
     }
-    look_of(value_in(m, x))
+    Ok(tell(value_in(m, x)))
 }

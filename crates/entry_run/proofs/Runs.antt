@@ -20,11 +20,11 @@ use Rattle.run_loop.specs.declared.Ran.{Ran}
 use Rattle.run_loop.specs.declared.Outcome.{Outcome}
 use Rattle.run_loop.specs.Runs.{HoldsFit, Ends}
 use Rattle.run_loop.proofs.Holding.{words_held}
-use Rattle.entry_run.specs.declared.Reply.TheVariants.{Ended, Refused}
+use Rattle.std.specs.Prelude.{Ok, Err}
 use Rattle.entry_run.specs.Replies.{reply_of}
 
 module _ (s m : List ℕ) (a : ℕ) where
-  pub run_refused : (r : Refusal) → memory_answer s m ≡ refused r.question r.place r.item → (Refused r ≡ reply_of (run_answer s m a)) × (m ≡ run_memory s m a)
+  pub run_refused : (r : Refusal) → memory_answer s m ≡ refused r.question r.place r.item → (Err r ≡ reply_of (run_answer s m a)) × (m ≡ run_memory s m a)
   unfolding run_answer run_memory by_verdict written reply_of
   run_refused r e = (rw e, rw e)
 
@@ -38,13 +38,13 @@ module _ (s m : List ℕ) (a : ℕ) where
 
     pub run_accepted : (r : Ran) (l : List ℕ)
         → ((σ : State) (R : List ℕ) → m ≡ image σ ++ R → Fit (program_of s) σ → Ends 0 (run_of (program_of s) a σ) r.outcome r.steps l R)
-        → (Ended r ≡ reply_of (run_answer s m a)) × (l ≡ run_memory s m a)
+        → (Ok r ≡ reply_of (run_answer s m a)) × (l ≡ run_memory s m a)
     unfolding run_answer run_memory by_verdict written reply_of run_from
     run_accepted r l f =
         let q = memory_so s m e in
         let h = holds_fit (program_of s) m q.2 in
         let d = f (state_of m) (drop size m) (held_whole m (state_of m) h.0) h.1 in
-        rw e (ap Ended (same r d.outcome_is d.steps_are), d.held)
+        rw e (ap Ok (same r d.outcome_is d.steps_are), d.held)
       where
         same : (r : Ran) {o : Outcome} {n : ℕ} → r.outcome ≡ o → r.steps ≡ 0 + n → r ≡ record { outcome = o; steps = n }
         same r {o} {n} x y =

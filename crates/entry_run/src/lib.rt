@@ -5,24 +5,15 @@ ghost use Rattle.std.specs.Prelude.{◌≡◌};
 ghost use Rattle.spec_answers.specs.Answers.{run_answer, run_memory};
 ghost use Rattle.entry_run.specs.Replies.{reply_of, SmallReply};
 
-use check_file::{Answer, Refusal};
+use check_file::Refusal;
 use run_loop::Ran;
 
-// What a run answers: how it ended, or why it was refused.
-#[derive(Clone, Copy)]
-pub enum Reply {
-    Ended(Ran),
-    Refused(Refusal),
-}
-
 // Runs the file's procedure in the memory for so many steps: questions 1 to 16, and where all pass, rules of the machine.
-pub fn run(file: &[u8], m: &mut [u32], allowed: u64) -> Reply
+pub fn run(file: &[u8], m: &mut [u32], allowed: u64) -> Result<Ran, Refusal>
     ensures answer { result ≡ reply_of (run_answer file.now m.old allowed) }
     ensures small { SmallReply result }
     ensures memory { m.new ≡ run_memory file.now m.old allowed }
 {
-    if let Answer::Refused(refusal) = entry_memory::check_memory(file, m) {
-        return Reply::Refused(refusal);
-    }
-    Reply::Ended(run_loop::run(file, m, allowed))
+    entry_memory::check_memory(file, m)?;
+    Ok(run_loop::run(file, m, allowed))
 }

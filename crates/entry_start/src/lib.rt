@@ -8,7 +8,7 @@ ghost use Rattle.spec_image.specs.Sizes.{size};
 ghost use Rattle.spec_machine.specs.Machine.{main_call};
 ghost use Rattle.spec_answers.specs.Answers.{start_answer, start_memory};
 
-use check_file::{Answer, Refusal};
+use check_file::Refusal;
 use state_words::layout::{IMAGE_WORDS, TAG_MAIN};
 
 // The image of main() with nothing waiting, written over the first n words, which are 16,384.
@@ -21,21 +21,15 @@ fn write_start(m: &mut [u32], n: usize)
 }
 
 // Starts a procedure: questions 1 to 15, and where all pass, main() with nothing waiting in the memory.
-pub fn start(file: &[u8], m: &mut [u32]) -> Answer
+pub fn start(file: &[u8], m: &mut [u32]) -> Result<(), Refusal>
     ensures answer { says result ≡ start_answer file.now m.old }
     ensures memory { m.new ≡ start_memory file.now m.old }
     ensures small { Small result }
 {
-    if let Answer::Refused(refusal) = check_file::check(file) {
-        return Answer::Refused(refusal);
-    }
+    check_file::check(file)?;
     if m.len() < IMAGE_WORDS {
-        return Answer::Refused(Refusal {
-            question: 15,
-            place: 0,
-            item: 0,
-        });
+        return Err(Refusal::whole(15));
     }
     write_start(m, IMAGE_WORDS);
-    Answer::Accepted
+    Ok(())
 }

@@ -16,13 +16,13 @@ use Rattle.spec_language.proofs.KindLists.{no_expression}
 use Rattle.spec_machine.specs.File.{program_of}
 use Rattle.spec_machine.specs.Test.{expr_in}
 use Rattle.check_summary.specs.Summary.{Needs}
-use Rattle.fit_nodes.specs.Part.{Part}
+use Rattle.fit_nodes.specs.Part.{IsPart}
 use Rattle.fit_nodes.proofs.AcceptedParts.{well-formed}
 use Rattle.fit_nodes.proofs.Sorts.{own_expression, expression_inside}
 use Rattle.check_summary.specs.Tables.{word_of, RowSays, TableSays}
 use Rattle.check_summary.proofs.Arms.{sorted, kid}
 
-module _ {s : List ℕ} {f : ℕ} {t : List ℕ} {n : ℕ} (p : Part s f t n) {table : List ℕ} (o : TableSays t n table) where
+module _ {s : List ℕ} {f : ℕ} {t : List ℕ} {n : ℕ} (p : IsPart s f t n) {table : List ℕ} (o : TableSays t n table) where
   pub row_room : {i : ℕ} → i < n → 5 * i + 5 ≤ length table
   row_room l = omega (arith, o.1)
 
@@ -38,10 +38,6 @@ module _ {s : List ℕ} {f : ℕ} {t : List ℕ} {n : ℕ} (p : Part s f t n) {t
   module _ {w : ℕ} (l : w < n) (k : kind_at t w ≡ 11) where
     pub while_row : RowSays (statement_at t w) table w
     while_row = o.0.flows w l (rw k (no_expression 11 refl))
-
-    pub body_below : w - 1 < w
-    unfolding arity_of arities last
-    body_below = kid (well-formed p) l 11 0 1 k refl
 
     pub body_row : RowSays (statement_at t (w - 1)) table (w - 1)
     unfolding arity_of arities last wants_expression

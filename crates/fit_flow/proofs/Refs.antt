@@ -11,7 +11,7 @@ use Rattle.spec_machine.specs.Test.{stmt_in, ok}
 use Rattle.state_words.specs.declared.Ref.{Ref}
 use Rattle.state_words.specs.declared.Ref.TheVariants as ref
 use Rattle.state_words.specs.Meaning.{ref_is}
-use Rattle.fit_nodes.specs.Part.{Part}
+use Rattle.fit_nodes.specs.Part.{IsPart}
 use Rattle.fit_nodes.proofs.AcceptedParts.{loop-above}
 use Rattle.fit_nodes.proofs.Refs.{if-within, seq_within}
 use Rattle.check_summary.specs.declared.Flowed.{Flowed}
@@ -22,7 +22,7 @@ use Rattle.fit_flow.proofs.Trees.{seq_returns, if_returns}
 abbrev Answered : List ℕ → ℕ → Ref → Set → Flowed → Type 0
 Answered s f r d b = (b.ok ≡ ok (program_of s) f (ref_is r) d) × (has b.left.0 ≡ leaves ((program_of s).stmt f (ref_is r)) d)
 
-module _ {s : List ℕ} {f : ℕ} {t : List ℕ} {n : ℕ} (p : Part s f t n) {r : Ref} where
+module _ {s : List ℕ} {f : ℕ} {t : List ℕ} {n : ℕ} (p : IsPart s f t n) {r : Ref} where
   -- ---- the nop
   module _ (e : r ≡ ref.Nop) where
     nop_tree : (program_of s).stmt f (ref_is r) ≡ Nop

@@ -1,13 +1,13 @@
 -- The flow of values through the if and the seq of a while, from the flow through its condition and its body.
+use Rattle.std.specs.Prelude.{Some, Option, None}
 use mathlib.Core.Path.{◌≡◌, refl, ◌∙◌}
 use mathlib.Core.Bool.{Bool, false, ◌&&◌, ◌||◌, and-true, and-false, or-false}
 use mathlib.Core.List.{List}
 use Prim.Native.Nat.{ℕ, ◌-◌, ◌<◌}
 use Rattle.varset.specs.Sets.{Set, has, both}
 use Rattle.records.specs.Fields.{kind_at, size_at}
-use Rattle.records.specs.Search.{or_else}
+use Rattle.records.specs.Search.{At, or_else}
 use Rattle.records.specs.declared.Found.{Found}
-use Rattle.records.specs.declared.Found.TheVariants.{At, Nothing}
 use Rattle.spec_language.specs.Statements.{Read, Statement, Nop, Seq, If, prior, last, reads_of, statement_at}
 use Rattle.spec_language.specs.Flow.{leaves, missing, lacks, returns}
 use Rattle.spec_language.proofs.Trees.{statement_while}
@@ -17,10 +17,10 @@ use Rattle.check_summary.specs.declared.Flowed.{Flowed}
 use Rattle.check_summary.specs.Flowed.{FlowedIs}
 
 -- two searches are clear together
-clear_both : (a b : Found) → clear (or_else a b) ≡ clear a && clear b
+clear_both : (a b : Option Found) → clear (or_else a b) ≡ clear a && clear b
 unfolding or_else
-clear_both (At i x) b = refl
-clear_both Nothing b = refl
+clear_both (Some found) b = refl
+clear_both None b = refl
 
 -- one statement after another
 goes_seq : (s t : Statement) (d : Set) (a b r : Flowed) → FlowedIs s d a → FlowedIs t (has a.left.0) b
@@ -38,7 +38,7 @@ goes_if : (e : List Read) (s : Statement) (d : Set) (held : Bool) (a r : Flowed)
 unfolding lacks leaves
 goes_if e s d held a r c g q l =
     record {
-      ok = q ∙ rw (clear_both (missing e d) (or_else (lacks s d) Nothing), clear_both (lacks s d) Nothing, and-true, c, g.ok);
+      ok = q ∙ rw (clear_both (missing e d) (or_else (lacks s d) None), clear_both (lacks s d) None, and-true, c, g.ok);
       left = l ∙ rw g.left;
     }
 

@@ -25,6 +25,3 @@ module _ (P : Program) (f : ℕ) (m : List ℕ) (low i : ℕ) (s : Incoming) whe
 
   pub chain_more : 0 < i → frame_fits P f s (frame_in m (low + (i - 1))) ≡ true → down s i ≡ down (hands_on P f s (frame_in m (low + (i - 1)))) (i - 1)
   chain_more h e = opened h ∙ rw e
-
-  pub chain_end : i ≡ 0 → down s i ≡ ends s
-  chain_end e = rw e

@@ -6,4 +6,3 @@ pub mod Forms
 pub mod Files
 pub mod Steps
 pub mod Chains
-pub mod Controls

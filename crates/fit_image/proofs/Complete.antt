@@ -12,7 +12,6 @@ use Rattle.words.specs.Blocks.{all_zero}
 use Rattle.words.specs.Stacks.{Wide, total}
 use Rattle.words.proofs.Stacks.{every, drop_region}
 use Rattle.words.proofs.Entries.{region_zeros}
-use Rattle.words.proofs.Tests.{zeros_all}
 use Rattle.spec_machine.specs.Values.{nothing, int, truth}
 use Rattle.spec_machine.specs.Machine.{Exception, abort, val, eval, exec, State, exception, calling, returned, running}
 use Rattle.spec_machine.specs.Fit.{WithinLimits, caller_limit, frame_limit}

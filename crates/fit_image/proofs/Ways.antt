@@ -35,9 +35,9 @@ module _ (b : List ℕ) where
   unfolding frame_ok
   kind_one h k = rw (le-ltb (get_or b 0 0) 3 h, lt-ltb (get_or b 0 0) 6 k, tail b 2)
 
-  pub kind_two : 6 ≤ get_or b 0 0 → get_or b 0 0 < 7 → all_zero (take (length b - 3) (drop 3 b)) ≡ frame_ok b
+  pub kind_two : get_or b 0 0 ≡ 6 → all_zero (take (length b - 3) (drop 3 b)) ≡ frame_ok b
   unfolding frame_ok
-  kind_two h k = rw (le-ltb (get_or b 0 0) 3 (omega arith), le-ltb (get_or b 0 0) 6 h, lt-ltb (get_or b 0 0) 7 k, tail b 3)
+  kind_two e = rw (e, tail b 3)
 
   pub kind_bare : 7 ≤ get_or b 0 0 → get_or b 0 0 < 10 → all_zero (take (length b - 1) (drop 1 b)) ≡ frame_ok b
   unfolding frame_ok

@@ -13,12 +13,14 @@ ghost use Rattle.fit_image.specs.MemoryTest.{tag_ok, head_ok, activations_ok, fr
 
 use state_words::layout::{
     ACTIVATION_WORDS, ACTIVATIONS, CALLER_LIMIT, ENVIRONMENT, FORM_BOOL, FORM_EVAL, FORM_EXEC,
-    FORM_INT, FORM_NOTHING, FRAME_LIMIT, FRAME_WORDS, FRAMES, HEAD_WORDS, IMAGE_WORDS, SLOT_ROOM,
-    SLOTS, TAG_ABORT, TAG_ARITH, TAG_CALL, TAG_MAIN, TAG_RETURNED, TAG_RUNNING, TAG_VALUE,
-    VARIABLE_ROOM, VARIABLES,
+    FORM_INT, FORM_NOTHING, FRAME_AND, FRAME_ASSERT, FRAME_BRANCH, FRAME_CALL, FRAME_DISCARD,
+    FRAME_LIMIT, FRAME_OPERATOR, FRAME_RETURN, FRAME_STORE, FRAME_WAIT, FRAME_WORDS, FRAMES,
+    HEAD_WORDS, IMAGE_WORDS, SLOT_ROOM, SLOTS, TAG_ABORT, TAG_ARITH, TAG_CALL, TAG_MAIN,
+    TAG_RETURNED, TAG_RUNNING, TAG_VALUE, VARIABLE_ROOM, VARIABLES,
 };
 
-// Whether a type and a word are a value's.
+// Whether a type and a word are a value's. Types, forms, tags and kinds are numbers here, since any words are tested.
+#[tactic(auto, using(crate::proofs::NoSuchTags::no_type), unfolding(crate::specs::BlockTests::value_ok))]
 fn value_ok(tag: u32, word: u32) -> bool
     ensures { result ≡ value_ok tag word }
 {
@@ -31,36 +33,35 @@ fn value_ok(tag: u32, word: u32) -> bool
 }
 
 // Whether the first n pairs of words are values.
+// A loop by index, since a slice's iterator hands on pointers in pairs, which c/port cannot carry to other processors.
 fn values_ok(s: &[u32], n: usize) -> bool
     requires { 2 * n ≤ length s.now }
     ensures { result ≡ values_ok n s.now }
 {
-    let mut i = 0;
-    while i < n {
+    for i in 0..n {
         if !value_ok(s[2 * i], s[2 * i + 1]) {
             return false;
         }
-        i += 1;
     }
     true
 }
 
 // Whether the first n pairs of words are nodes, each with a zero after it.
+// A loop by index, since a slice's iterator hands on pointers in pairs, which c/port cannot carry to other processors.
 fn nodes_ok(s: &[u32], n: usize) -> bool
     requires { 2 * n ≤ length s.now }
     ensures { result ≡ nodes_ok n s.now }
 {
-    let mut i = 0;
-    while i < n {
+    for i in 0..n {
         if s[2 * i + 1] != 0 {
             return false;
         }
-        i += 1;
     }
     true
 }
 
 // Whether the slots of a frame hold y values and z nodes, and zeros.
+#[tactic(auto, using(crate::proofs::Ways::operands_many, crate::proofs::Ways::operands_few))]
 fn operands_ok(s: &[u32], y: u32, z: u32) -> bool
     requires { length s.now ≡ 16 }
     ensures { result ≡ operands_ok y z s.now }
@@ -79,30 +80,22 @@ fn operands_ok(s: &[u32], y: u32, z: u32) -> bool
 }
 
 // Whether 20 words are a frame's; by frame.
+#[tactic(auto, using(crate::proofs::Ways::kind_none, crate::proofs::Ways::kind_gather, crate::proofs::Ways::kind_past))]
 fn frame_ok(b: &[u32]) -> bool
     requires { length b.now ≡ frame_size }
     ensures { result ≡ frame_ok b.now }
 {
-    let kind = b[0];
-    if kind < 3 {
-        if kind < 1 {
-            return false;
-        }
-        return operands_ok(&b[SLOTS..], b[2], b[3]);
+    match b[0] {
+        FRAME_OPERATOR | FRAME_CALL => operands_ok(&b[SLOTS..], b[2], b[3]),
+        FRAME_AND | FRAME_WAIT | FRAME_STORE => words::all_zero(&b[2..]),
+        FRAME_BRANCH => words::all_zero(&b[3..]),
+        FRAME_RETURN | FRAME_ASSERT | FRAME_DISCARD => words::all_zero(&b[1..]),
+        _ => false,
     }
-    if kind < 6 {
-        return words::all_zero(&b[2..]);
-    }
-    if kind < 7 {
-        return words::all_zero(&b[3..]);
-    }
-    if kind < 10 {
-        return words::all_zero(&b[1..]);
-    }
-    false
 }
 
 // Whether 136 words are an activation's.
+#[tactic(auto, using(crate::proofs::Ways::variables_many, crate::proofs::Ways::variables_few))]
 fn activation_ok(b: &[u32]) -> bool
     requires { length b.now ≡ activation_size }
     ensures { result ≡ activation_ok b.now }
@@ -117,38 +110,35 @@ fn activation_ok(b: &[u32]) -> bool
 }
 
 // Whether a form and a word are a control's.
+#[tactic(auto, using(crate::proofs::NoSuchTags::no_form), unfolding(crate::specs::BlockTests::control_ok))]
 fn control_ok(form: u32, word: u32) -> bool
     ensures { result ≡ control_ok form word }
 {
     match form {
         FORM_NOTHING => word == 0,
-        FORM_INT => true,
         FORM_BOOL => word < 2,
-        FORM_EVAL => true,
-        FORM_EXEC => true,
+        FORM_INT | FORM_EVAL | FORM_EXEC => true,
         _ => false,
     }
 }
 
 // Whether the first five words are those of a head.
+#[tactic(auto, using(crate::proofs::NoSuchTags::no_tag), unfolding(crate::specs::MemoryTest::tag_ok))]
 fn tag_ok(tag: u32, int: u32, count: u32, form: u32, word: u32) -> bool
     ensures { result ≡ tag_ok tag int count form word }
 {
     let zero = int == 0;
     let plain = (count == 0) & ((form == 0) & (word == 0));
     match tag {
-        TAG_MAIN => zero & plain,
+        TAG_MAIN | TAG_ARITH | TAG_ABORT => zero & plain,
         TAG_RUNNING => zero & ((1 <= count) & ((count <= CALLER_LIMIT) & control_ok(form, word))),
-        TAG_RETURNED => plain,
-        TAG_VALUE => plain,
-        TAG_ARITH => zero & plain,
-        TAG_ABORT => zero & plain,
-        TAG_CALL => plain,
+        TAG_RETURNED | TAG_VALUE | TAG_CALL => plain,
         _ => false,
     }
 }
 
 // Whether the first 128 words are a head.
+#[tactic(auto, unfolding(crate::specs::MemoryTest::head_ok))]
 fn head_ok(m: &[u32]) -> bool
     requires { size ≤ length m.now }
     ensures { result ≡ head_ok m.now }
@@ -157,13 +147,12 @@ fn head_ok(m: &[u32]) -> bool
 }
 
 // Whether n activations, and zeros above them, lie in their room.
+// A loop by index, since a slice's iterator hands on pointers in pairs, which c/port cannot carry to other processors.
 fn activations_ok(m: &[u32], n: usize) -> bool
     requires { (size ≤ length m.now) × (n ≤ caller_room) }
     ensures { result ≡ activations_ok m.now n }
 {
-    let mut i = n;
-    while 0 < i {
-        i -= 1;
+    for i in (0..n).rev() {
         let at = ACTIVATIONS + i * ACTIVATION_WORDS;
         let end = at + ACTIVATION_WORDS;
         if !activation_ok(&m[at..end]) {
@@ -174,21 +163,13 @@ fn activations_ok(m: &[u32], n: usize) -> bool
     words::all_zero(&m[top..FRAMES])
 }
 
-// A word as a number.
-fn wide(x: u32) -> usize
-    ensures { (result ≡ x) × (result < 4294967296) }
-{
-    x as usize
-}
-
 // Whether n frames, and zeros above them, lie in their room.
+// A loop by index, since a slice's iterator hands on pointers in pairs, which c/port cannot carry to other processors.
 fn frames_ok(m: &[u32], n: usize) -> bool
     requires { (size ≤ length m.now) × (n ≤ frame_room) }
     ensures { result ≡ frames_ok m.now n }
 {
-    let mut i = n;
-    while 0 < i {
-        i -= 1;
+    for i in (0..n).rev() {
         let at = FRAMES + i * FRAME_WORDS;
         let end = at + FRAME_WORDS;
         if !frame_ok(&m[at..end]) {
@@ -200,18 +181,18 @@ fn frames_ok(m: &[u32], n: usize) -> bool
 }
 
 // Whether a word is an entry function's under a tag, which in a final state is none.
+#[tactic(auto, using(crate::proofs::NoSuchTags::not_final), unfolding(crate::specs::MemoryTest::entry_ok))]
 fn entry_ok(tag: u32, entry: u32) -> bool
     ensures { result ≡ entry_ok tag entry }
 {
     match tag {
-        TAG_VALUE => entry == 0,
-        TAG_ARITH => entry == 0,
-        TAG_ABORT => entry == 0,
+        TAG_VALUE | TAG_ARITH | TAG_ABORT => entry == 0,
         _ => true,
     }
 }
 
 // Whether 1,664 words are an environment's under a tag.
+#[tactic(auto, using(crate::proofs::Environments::env_blank, crate::proofs::Environments::env_whole))]
 fn env_ok(tag: u32, e: &[u32]) -> bool
     requires { length e.now ≡ env_size }
     ensures { result ≡ env_ok tag e.now }
@@ -223,6 +204,7 @@ fn env_ok(tag: u32, e: &[u32]) -> bool
 }
 
 // Whether head, activations, frames and environment pass their tests.
+#[tactic(auto, using(crate::proofs::Rooms::head_less, crate::proofs::Rooms::head_few, crate::proofs::Rooms::image_less, crate::proofs::Rooms::image_many, crate::proofs::Rooms::image_end))]
 fn image_ok(m: &[u32]) -> bool
     requires { size ≤ length m.now }
     ensures { result ≡ image_ok m.now }
@@ -230,7 +212,7 @@ fn image_ok(m: &[u32]) -> bool
     if !head_ok(m) {
         return false;
     }
-    let n = wide(m[2]);
+    let n = m[2] as usize;
     if !activations_ok(m, n) {
         return false;
     }

@@ -11,9 +11,9 @@ use Rattle.spec_language.specs.Known.{Known, CallsKnown, WellFormed}
 use Rattle.spec_language.proofs.Accept.{Accepted, accepted_is, parts, nodes_known, calls_known}
 use Rattle.spec_language.proofs.KnownNodes.{inner}
 use Rattle.check_scopes.specs.Counts.{Named}
-use Rattle.fit_nodes.specs.Part.{Part}
+use Rattle.fit_nodes.specs.Part.{IsPart}
 
-module _ {s : List ℕ} {f : ℕ} {t : List ℕ} {n : ℕ} (p : Part s f t n) where
+module _ {s : List ℕ} {f : ℕ} {t : List ℕ} {n : ℕ} (p : IsPart s f t n) where
   pub all : Accepted s
   all = accepted_is s p.passed
 
@@ -51,13 +51,6 @@ module _ {s : List ℕ} {f : ℕ} {t : List ℕ} {n : ℕ} (p : Part s f t n) wh
       let k = p.known in
       let v = laid.vars f k in
       ((omega arith, laid.params f k), (inside, some, omega arith))
-
-  -- what a walk asks of the node it begins at
-  pub walk_asks : {i : ℕ} → i < n → ((12 * n ≤ length t) × (i < n)) × Known t n
-  walk_asks l = ((inside, l), nodes)
-
-  pub loop_asks : {w : ℕ} → (w < n) × (kind_at t w ≡ 11) → ((12 * n ≤ length t) × (w < n)) × (Known t n × (kind_at t w ≡ 11))
-  loop_asks h = ((inside, h.0), (nodes, h.1))
 
   -- a while has a body before it
   pub loop-above : {w : ℕ} → (w < n) × (kind_at t w ≡ 11) → 0 < w

@@ -11,10 +11,10 @@ use Rattle.spec_machine.specs.Test.{stmt_in}
 use Rattle.state_words.specs.declared.Ref.{Ref}
 use Rattle.state_words.specs.declared.Ref.TheVariants as ref
 use Rattle.state_words.specs.Meaning.{ref_is}
-use Rattle.fit_nodes.specs.Part.{Part}
+use Rattle.fit_nodes.specs.Part.{IsPart}
 use Rattle.fit_nodes.proofs.Sorts.{node_sort, if_sort, seq_sort, node_inside, if_inside, seq_inside}
 
-module _ {s : List ℕ} {f : ℕ} {t : List ℕ} {n : ℕ} (p : Part s f t n) {r : Ref} where
+module _ {s : List ℕ} {f : ℕ} {t : List ℕ} {n : ℕ} (p : IsPart s f t n) {r : Ref} where
   -- ---- the nop
   module _ (e : r ≡ ref.Nop) where
     pub nop_is : true ≡ stmt_in (program_of s) f (ref_is r)

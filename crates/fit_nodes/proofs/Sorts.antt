@@ -19,7 +19,7 @@ use Rattle.spec_machine.specs.File.{look_at, form_at, if_form, seq_form, see_at,
 use Rattle.spec_machine.specs.Test.{expr_in, stmt_in}
 use Rattle.spec_machine.proofs.Levels.{by_look, by_form}
 use Rattle.spec_machine.proofs.Nodes.{look_sort, variable_type_is, type_is}
-use Rattle.fit_nodes.specs.Part.{Part}
+use Rattle.fit_nodes.specs.Part.{IsPart}
 use Rattle.fit_nodes.proofs.AcceptedParts.{all, nodes}
 
 -- a look is a constant exactly where the kind is
@@ -29,7 +29,7 @@ constant t i =
     (λ e. rw e) (λ e. rw e) (λ e. rw e) (λ e. rw e) (λ e. rw e) (λ e. rw e) (λ e. rw e)
     (λ n. by (is_constant (kind_at t i)) (λ e. clash (is_expression (kind_at t i)) (constant_expression (kind_at t i) e) n) (λ e. e))
 
-module _ {s : List ℕ} {f : ℕ} {t : List ℕ} {n : ℕ} (p : Part s f t n) where
+module _ {s : List ℕ} {f : ℕ} {t : List ℕ} {n : ℕ} (p : IsPart s f t n) where
   -- ---- variables and expressions
   pub variable_type : {x : ℕ} → x < vars_of s f → types.var_type s f t n x ≡ type_of_var ((program_of s).fun f) x
   unfolding program_of

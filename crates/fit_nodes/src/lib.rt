@@ -1,7 +1,7 @@
-// Facts of one node of an accepted file: its sort and its type.
+// A function's part of an accepted file, and facts of one node of it: its sort and its type.
 #![tactic(auto)]
 
-ghost use Rattle.std.specs.Prelude.{◌≡◌, true, ◌&&◌, ◌*◌, ◌≤◌, ◌<◌, eqb, ltb, length};
+ghost use Rattle.std.specs.Prelude.{◌≡◌, true, ◌&&◌, ◌<◌, eqb, ltb};
 ghost use Rattle.records.specs.Fields.{vars_of, kind_at};
 ghost use Rattle.spec_language.specs.KindLists.{is_constant, is_statement};
 ghost use Rattle.check_scopes.specs.Counts.{Decls};
@@ -10,7 +10,7 @@ ghost use Rattle.spec_machine.specs.Fit.{is_const};
 ghost use Rattle.spec_machine.specs.File.{program_of};
 ghost use Rattle.spec_machine.specs.Test.{expr_in, stmt_in};
 ghost use Rattle.state_words.specs.Meaning.{ref_is};
-ghost use Rattle.fit_nodes.specs.Part.{Part};
+ghost use Rattle.fit_nodes.specs.Part.{IsPart};
 
 use records::format::VARIABLE_ENTRIES;
 use records::nodes::kind_at;
@@ -26,66 +26,6 @@ fn is_statement_kind(kind: u8) -> bool
     }
 }
 
-// Whether node i is one of the part's, and of such a kind.
-fn is_statement_node(part: &[u8], n: usize, i: u32) -> bool
-    requires { 12 * n ≤ length part.now }
-    ensures { result ≡ ltb i n && is_statement (kind_at part.now i) }
-{
-    let at = i as usize;
-    if n <= at {
-        return false;
-    }
-    is_statement_kind(kind_at(part, at))
-}
-
-// Whether node w is one of the part's, and a while.
-fn is_while(part: &[u8], n: usize, w: u32) -> bool
-    requires { 12 * n ≤ length part.now }
-    ensures { result ≡ ltb w n && eqb (kind_at part.now w) 11 }
-{
-    let at = w as usize;
-    if n <= at {
-        return false;
-    }
-    kind_at(part, at) == 11
-}
-
-// The decl of each variable of function f's part.
-pub fn decls_of(file: &[u8], f: usize, part: &[u8], n: usize) -> [usize; VARIABLE_ENTRIES]
-    requires { Part file.now f part.now n }
-    ensures { Decls part.now n result }
-{
-    check_scopes::decl_table(part, n)
-}
-
-// The type of variable x of function f.
-pub fn variable_type(
-    file: &[u8],
-    f: usize,
-    part: &[u8],
-    n: usize,
-    decls: &[usize; VARIABLE_ENTRIES],
-    x: u32,
-) -> u8
-    requires { Part file.now f part.now n × (Decls part.now n decls.now) × (x < vars_of file.now f) }
-    ensures { result ≡ type_of_var ((program_of file.now).fun f) x }
-{
-    check_types::var_type(file, f, part, n, decls, x)
-}
-
-// Whether node i is an expression of function f.
-pub fn is_expression(file: &[u8], f: usize, part: &[u8], n: usize, i: u32) -> bool
-    requires { Part file.now f part.now n }
-    ensures { result ≡ expr_in (program_of file.now) f i }
-{
-    let at = i as usize;
-    if at < n {
-        check_sorts::is_expression(kind_at(part, at))
-    } else {
-        false
-    }
-}
-
 // Whether a kind is a constant's; by kind.
 fn is_constant_kind(kind: u8) -> bool
     ensures { result ≡ is_constant kind }
@@ -97,38 +37,92 @@ fn is_constant_kind(kind: u8) -> bool
     }
 }
 
-// Whether the expression at node i is a constant.
-pub fn is_constant(file: &[u8], f: usize, part: &[u8], n: usize, i: u32) -> bool
-    requires { Part file.now f part.now n × (expr_in (program_of file.now) f i ≡ true) }
-    ensures { result ≡ is_const ((program_of file.now).look f i) }
-{
-    is_constant_kind(kind_at(part, i as usize))
+// The part of a function of an accepted file: the file, the function, and the part's bytes with the number of its nodes.
+#[derive(Clone, Copy)]
+pub struct Part<'a> {
+    pub file: &'a [u8],
+    pub function: usize,
+    pub bytes: &'a [u8],
+    pub nodes: usize,
+    pub ghost known: { IsPart file.now function bytes.now nodes },
 }
 
-// The type of the expression at node i.
-pub fn expression_type(
-    file: &[u8],
-    f: usize,
-    part: &[u8],
-    n: usize,
-    decls: &[usize; VARIABLE_ENTRIES],
-    i: u32,
-) -> u8
-    requires { Part file.now f part.now n × (Decls part.now n decls.now) × (expr_in (program_of file.now) f i ≡ true) }
-    ensures { result ≡ type_n (program_of file.now) f i }
-{
-    check_types::type_of(file, f, part, n, decls, i as usize)
-}
+impl Part<'_> {
+    // Whether node i is one of the part's, and of such a kind.
+    fn is_statement_node(&self, i: u32) -> bool
+        ensures { result ≡ ltb i self.now.nodes && is_statement (kind_at self.now.bytes.now i) }
+    {
+        let at = i as usize;
+        if self.nodes <= at {
+            return false;
+        }
+        is_statement_kind(kind_at(self.bytes, at))
+    }
 
-// Whether a reference names a statement of function f.
-pub fn is_statement(file: &[u8], f: usize, part: &[u8], n: usize, r: Ref) -> bool
-    requires { Part file.now f part.now n }
-    ensures { result ≡ stmt_in (program_of file.now) f (ref_is r) }
-{
-    match r {
-        Ref::Nop => true,
-        Ref::Node(i) => is_statement_node(part, n, i),
-        Ref::IfOf(w) => is_while(part, n, w),
-        Ref::SeqOf(w) => is_while(part, n, w),
+    // Whether node w is one of the part's, and a while.
+    fn is_while(&self, w: u32) -> bool
+        ensures { result ≡ ltb w self.now.nodes && eqb (kind_at self.now.bytes.now w) 11 }
+    {
+        let at = w as usize;
+        if self.nodes <= at {
+            return false;
+        }
+        kind_at(self.bytes, at) == 11
+    }
+
+    // The decl of each variable.
+    pub fn decls(&self) -> [usize; VARIABLE_ENTRIES]
+        ensures { Decls self.now.bytes.now self.now.nodes result }
+    {
+        check_scopes::decl_table(self.bytes, self.nodes)
+    }
+
+    // The type of variable x.
+    pub fn variable_type(&self, decls: &[usize; VARIABLE_ENTRIES], x: u32) -> u8
+        requires { Decls self.now.bytes.now self.now.nodes decls.now × (x < vars_of self.now.file.now self.now.function) }
+        ensures { result ≡ type_of_var ((program_of self.now.file.now).fun self.now.function) x }
+    {
+        check_types::var_type(self.file, self.function, self.bytes, self.nodes, decls, x)
+    }
+
+    // Whether node i is an expression.
+    pub fn is_expression(&self, i: u32) -> bool
+        ensures { result ≡ expr_in (program_of self.now.file.now) self.now.function i }
+    {
+        let at = i as usize;
+        if at < self.nodes {
+            check_sorts::is_expression(kind_at(self.bytes, at))
+        } else {
+            false
+        }
+    }
+
+    // Whether the expression at node i is a constant.
+    pub fn is_constant(&self, i: u32) -> bool
+        requires { expr_in (program_of self.now.file.now) self.now.function i ≡ true }
+        ensures { result ≡ is_const ((program_of self.now.file.now).look self.now.function i) }
+    {
+        is_constant_kind(kind_at(self.bytes, i as usize))
+    }
+
+    // The type of the expression at node i.
+    pub fn expression_type(&self, decls: &[usize; VARIABLE_ENTRIES], i: u32) -> u8
+        requires { Decls self.now.bytes.now self.now.nodes decls.now × (expr_in (program_of self.now.file.now) self.now.function i ≡ true) }
+        ensures { result ≡ type_n (program_of self.now.file.now) self.now.function i }
+    {
+        let at = i as usize;
+        check_types::type_of(self.file, self.function, self.bytes, self.nodes, decls, at)
+    }
+
+    // Whether a reference names a statement.
+    pub fn is_statement(&self, r: Ref) -> bool
+        ensures { result ≡ stmt_in (program_of self.now.file.now) self.now.function (ref_is r) }
+    {
+        match r {
+            Ref::Nop => true,
+            Ref::Node(i) => self.is_statement_node(i),
+            Ref::IfOf(w) => self.is_while(w),
+            Ref::SeqOf(w) => self.is_while(w),
+        }
     }
 }

@@ -3,22 +3,26 @@ use mathlib.Core.Path.{◌≡◌, refl, sym, ap, ◌∙◌}
 use mathlib.Core.Bool.{true, false, ◌&&◌, not, and-true}
 use mathlib.Core.List.{List, [], ◌∷◌, ◌++◌}
 use mathlib.Core.Option.{none, some}
-use Prim.Native.Nat.{ℕ, zero, suc}
+use Prim.Native.Nat.{ℕ, zero, suc, ◌≤◌}
 use native.Mathlib.Omega.{arith}
 use lib.Dec.{eqb}
-use lib.ListN.{get_or}
+use lib.ListN.{length, get_or}
 use borrow.Author.Tests.{ne_eqb}
 use Rattle.spec_machine.specs.Values.{t_int}
 use Rattle.spec_machine.specs.Program.{Program}
 use Rattle.spec_machine.specs.Machine.{Exception, abort, RunEnv, empty_env, State, exception, calling, returned, running}
 use Rattle.spec_machine.specs.Fit.{WithinLimits}
+use Rattle.spec_language.specs.Check.{accepted, check_of}
+use Rattle.spec_machine.specs.File.{program_of}
 use Rattle.spec_machine.specs.Test.{are_ty, is_entry}
+use Rattle.spec_image.specs.Sizes.{size}
 use Rattle.spec_image.specs.Layout.{filled, env_words}
 use Rattle.spec_image.specs.Image.{head_words, env_part, image}
 use Rattle.spec_image.specs.Decode.{env_of}
 use Rattle.spec_image.proofs.Images.{head_word_lem, env_back}
 use Rattle.fit_state.specs.HoldsState.{HoldsState}
 use Rattle.fit_state.specs.Activations.{entry_fit}
+use Rattle.fit_state.specs.Running.{RunningIn}
 
 -- ---- its word
 
@@ -75,3 +79,8 @@ pub entry_known : (P : Program) (m : List ℕ) (h : HoldsState m) → get_or m 0
 entry_known P m h q e =
     let t : get_or (head_words h.state) 0 0 ≡ 2 = sym (head_word_lem h.state h.rest 0 (omega arith)) ∙ (rw h.held at q) in
     rw h.held (known P h.state h.rest h.within t e)
+
+-- a memory that holds a running state, with all that is known of it
+pub running_in : (file m : List ℕ) → check_of file ≡ accepted → size ≤ length m → (h : HoldsState m) → get_or m 0 0 ≡ 2 → true ≡ entry_fit (program_of file) h.state
+    → RunningIn file m
+running_in file m p w h q e = record { passed = p; whole = w; holds = h; tag = q; entry = entry_known (program_of file) m h q (sym e) }

@@ -4,4 +4,3 @@ pub mod Entries
 pub mod Values
 pub mod Lists
 pub mod Rests
-pub mod Filling

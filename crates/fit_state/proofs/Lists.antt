@@ -19,11 +19,12 @@ use Rattle.spec_image.specs.Decode.{frame_of, activation_of, frames_held, activa
 use Rattle.state_words.specs.Meaning.{activation_at}
 use Rattle.state_words.proofs.Totals.{activation_word, frames_of_lem, total_last}
 use Rattle.varset.specs.Sets.{has}
-use Rattle.fit_frames.specs.declared.Next.{Next}
+use Rattle.varset.specs.declared.VarSet.{VarSet}
+use Rattle.std.specs.Prelude.{Some, None}
+use Rattle.fit_frames.specs.declared.Received.{Received}
 use Rattle.fit_frames.specs.Incoming.{frame_fits, hands_on, ends}
 use Rattle.fit_frames.specs.Meaning.{incoming_is}
-use Rattle.fit_state.specs.declared.Variables.{Variables}
-use Rattle.fit_state.specs.Activations.{Over, at, calls, over_ok, handed, frames_fit, activation_fit, function_of, frames_under, callers_fit}
+use Rattle.fit_state.specs.Activations.{Over, calls, frames_fit, activation_fit, function_of, frames_under, callers_fit}
 use Rattle.fit_state.specs.Meaning.{OverAnswer, VariablesAnswer, variables_in, activation_in, frames_to}
 
 -- ---- the words of an activation
@@ -93,9 +94,6 @@ module _ (P : Program) (m : List ℕ) (e f a high : ℕ) (here : 0 < a) where
       → callers_fit P e f (activations_to m a) (frames_to m high) ≡ callers_fit P e g (activations_to m (a - 1)) (frames_to m (high - k))
   callers_more g k eg ek h q = opened ∙ rw (q, function_of_lem m (a - 1) g eg, under-is m a high here k ek h)
 
-pub callers_end : (P : Program) (m : List ℕ) (e f a : ℕ) (F : List Frame) → a ≡ 0 → callers_fit P e f (activations_to m a) F ≡ eqb f e
-callers_end P m e f a F z = rw z
-
 -- an activation that is fit is of a function of the program
 pub fit_known : (P : Program) (o : Over) (m : List ℕ) (a : ℕ) (F : List Frame) (f : ℕ) → f ≡ get_or m (activation_at a + 0) 0
     → activation_fit P o (activation_in m a) F ≡ true → has_function P f ≡ true
@@ -109,24 +107,16 @@ fit_known P o m a F f e h = go (has_function P f) refl
 
 -- ---- an activation, test by test
 
-module _ {P : Program} {f : ℕ} {η : List Value} {r : Variables} (v : VariablesAnswer P f η r) (o : Over) (K : List Frame) where
-  abbrev whole : Bool
-  whole = all_hold_typed η (var_types (P.fun f)) && frames_fit P f (held η) o K
+module _ {P : Program} {f : ℕ} {η : List Value} (o : Over) (K : List Frame) where
+  pub in_variables : VariablesAnswer P f η None → false ≡ (all_hold_typed η (var_types (P.fun f)) && frames_fit P f (held η) o K)
+  in_variables v = rw (← v.ok)
 
-  pub in_variables : r.ok ≡ false → whole ≡ false
-  in_variables e = rw (sym v.ok ∙ e)
+  module _ {d : VarSet} (v : VariablesAnswer P f η (Some d)) where
+    pub in_over : OverAnswer P f (has d.0) o None → false ≡ (all_hold_typed η (var_types (P.fun f)) && frames_fit P f (held η) o K)
+    in_over h = rw (← v.ok, ← (rw v.set at h.ok))
 
-  module _ (good : r.ok ≡ true) {h : Next} (d : OverAnswer P f (has r.set.0) o h) where
-    over-is : over_ok P f (held η) o ≡ h.ok
-    over-is = rw (v.set good) at (sym d.ok)
-
-    pub in_over : h.ok ≡ false → whole ≡ false
-    in_over e = rw (sym v.ok ∙ good, over-is ∙ e)
-
-    pub in_frames : h.ok ≡ true → whole ≡ chain (frame_fits P f) (hands_on P f) ends (incoming_is h.down) K
-    in_frames e =
-        let q : handed P f (held η) o ≡ incoming_is h.down = rw (v.set good) at (sym (d.on e)) in
-        rw (sym v.ok ∙ good, over-is ∙ e, q)
+    pub in_frames : {w : Received} → OverAnswer P f (has d.0) o (Some w) → chain (frame_fits P f) (hands_on P f) ends (incoming_is w) K ≡ (all_hold_typed η (var_types (P.fun f)) && frames_fit P f (held η) o K)
+    in_frames h = rw (← v.ok, ← (rw v.set at h.ok), ← (rw v.set at h.on))
 
 -- ---- how many frames there are
 

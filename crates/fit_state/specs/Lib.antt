@@ -1,3 +1,4 @@
 pub mod HoldsState
 pub mod Activations
 pub mod Meaning
+pub mod Running

@@ -40,14 +40,14 @@ from_start f at n =
 module _ (log m l t : List ℕ) (at n i k p : ℕ) (h : i < n) (e : length m ≡ k) (s : restored (changes_at log (at + 6 * i) (n - i)) m ≡ t)
     (q : p ≡ u16_at log (at + 6 * i)) where
   abbrev later : Type 0
-  later = (i + 1 ≤ n) × (length l ≡ k) × (restored (changes_at log (at + 6 * (i + 1)) (n - (i + 1))) l ≡ t)
+  later = (length l ≡ k) × (restored (changes_at log (at + 6 * (i + 1)) (n - (i + 1))) l ≡ t)
 
   pub change_put : (x : ℕ) → x ≡ u32_at log (at + 6 * i + 2) → l ≡ set m p x → later
   unfolding changes_at
   change_put x y z =
       let a : n - i ≡ suc (n - (i + 1)) = omega arith in
       let b : at + 6 * (i + 1) ≡ at + 6 * i + 6 = omega arith in
-      (omega arith, rw z (length-set m p x ∙ e), rw (b, z, q, y) (rw a at s))
+      (rw z (length-set m p x ∙ e), rw (b, z, q, y) (rw a at s))
 
   pub change_past : k ≤ p → l ≡ m → later
   change_past o z =
@@ -60,14 +60,14 @@ changes_done log m at n i h = let a : n - i ≡ 0 = omega arith in rw a
 
 -- one word more
 pub word_put : (log m t : List ℕ) (at n i x : ℕ) → i < n → length m ≡ n → x ≡ u32_at log (at + 4 * i) → take i m ++ words_at log (at + 4 * i) (n - i) ≡ t
-    → (i + 1 ≤ n) × (length (set m i x) ≡ n) × (take (i + 1) (set m i x) ++ words_at log (at + 4 * (i + 1)) (n - (i + 1)) ≡ t)
+    → (length (set m i x) ≡ n) × (take (i + 1) (set m i x) ++ words_at log (at + 4 * (i + 1)) (n - (i + 1)) ≡ t)
 unfolding words_at
 word_put log m t at n i x h e q s =
     let a : n - i ≡ suc (n - (i + 1)) = omega arith in
     let b : at + 4 * (i + 1) ≡ at + 4 * i + 4 = omega arith in
     let k : i + 1 ≡ suc i = omega arith in
     let z : take (i + 1) (set m i x) ≡ take i m ++ (x ∷ []) = rw k (take-suc-set m i x (omega arith)) in
-    (omega arith, length-set m i x ∙ e, rw (z, b) (append_snoc (take i m) x (words_at log (at + 4 * i + 4) (n - (i + 1))) ∙ rw q (rw a at s)))
+    (length-set m i x ∙ e, rw (z, b) (append_snoc (take i m) x (words_at log (at + 4 * i + 4) (n - (i + 1))) ∙ rw q (rw a at s)))
 
 pub words_done : (log m : List ℕ) (at n i : ℕ) → n ≤ i → length m ≡ n → take i m ++ words_at log at (n - i) ≡ m
 unfolding words_at

@@ -1,10 +1,8 @@
 -- A record put in three parts: its mark, what stands between, and its number.
-use mathlib.Core.Path.{◌≡◌, refl, sym, ap, ◌∙◌}
-use mathlib.Core.Bool.{true, false}
+use mathlib.Core.Path.{◌≡◌, refl, ap, ◌∙◌}
 use mathlib.Core.List.{List, ◌++◌}
 use Prim.Native.Nat.{ℕ, ◌+◌, ◌*◌, ◌≤◌, ◌<◌}
 use native.Mathlib.Omega.{arith}
-use lib.Dec.{leb}
 use lib.ListN.{length, length-append}
 use borrow.Author.Tests.{le-leb, lt-leb}
 use Rattle.words.specs.Blocks.{puts}
@@ -13,7 +11,7 @@ use Rattle.spec_image.specs.Sizes.{size}
 use Rattle.spec_log.specs.Changes.{changes}
 use Rattle.spec_log.specs.Records.{two, mark, most_changes, whole_number, longest, change_bytes, word_bytes, record_of}
 use Rattle.spec_log.proofs.Bytes.{length_changes, length_bytes}
-use Rattle.spec_log.proofs.Records.{few_changes, record_is, number_few, number_many}
+use Rattle.spec_log.proofs.Records.{record_is, number_few, number_many}
 
 -- the three parts are the record
 three_put : (log : List ℕ) (at : ℕ) (body : List ℕ) (n : ℕ) {log₁ log₂ log₃ : List ℕ} {end : ℕ} → log₁ ≡ puts log at 0 mark → log₂ ≡ puts log₁ (at + 2) 0 body

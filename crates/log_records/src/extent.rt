@@ -30,7 +30,7 @@ pub fn extent_of(m: &[u32]) -> Extent
 fn greater(a: usize, b: usize) -> usize
     ensures { result ≡ max a b }
 {
-    if a < b { b } else { a }
+    a.max(b)
 }
 
 // The extent of two states together.

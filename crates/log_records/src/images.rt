@@ -3,16 +3,13 @@ ghost use Rattle.std.specs.Prelude.{◌≡◌, ◌≤◌, length};
 ghost use Rattle.words.specs.Blocks.{eq_words};
 ghost use Rattle.spec_image.specs.Sizes.{size};
 
-// Makes the words those of another slice of as many.
+// Makes the words those of another slice of as many: by index, since copy_from_slice hands on pairs with a pointer, which c/port carries to no other processor.
 pub fn copy(to: &mut [u32], from: &[u32])
     requires { length to.old ≡ length from.now }
     ensures { to.new ≡ from.now }
 {
-    let n = to.len();
-    let mut i = 0;
-    while i < n {
+    for i in 0..to.len() {
         to[i] = from[i];
-        i += 1;
     }
 }
 

@@ -39,14 +39,12 @@ fn restore_changes(log: &[u8], at: usize, n: usize, m: &mut [u32])
     ensures { m.new ≡ restored (changes_at log.now at n) m.old }
 {
     let words = m.len();
-    let mut i = 0;
-    while i < n {
+    for i in 0..n {
         let next = at + 6 * i;
         let place = u16_at(log, next) as usize;
         if place < words {
             m[place] = u32_at(log, next + 2);
         }
-        i += 1;
     }
 }
 
@@ -55,11 +53,8 @@ fn restore_words(log: &[u8], at: usize, m: &mut [u32])
     requires { at + 4 * length m.old ≤ length log.now }
     ensures { m.new ≡ words_at log.now at (length m.old) }
 {
-    let words = m.len();
-    let mut i = 0;
-    while i < words {
+    for i in 0..m.len() {
         m[i] = u32_at(log, at + 4 * i);
-        i += 1;
     }
 }
 

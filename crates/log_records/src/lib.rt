@@ -25,12 +25,12 @@ pub const MARK: u32 = 19266;
 // The bytes of a record that has all words, which no record is longer than.
 pub const LONGEST: usize = 65540;
 
-// Puts a number below 65,536 into two bytes.
+// Puts a number below 65,536 into two bytes. Each byte has a store of its own, here and below: copy_from_slice takes an array through memory.
 fn put_u16(log: &mut [u8], at: usize, n: u32)
     requires { at + 2 ≤ length log.old }
     ensures { log.new ≡ puts log.old at 0 (two n) }
 {
-    log[at + 0] = (n % 256) as u8;
+    log[at] = (n % 256) as u8;
     log[at + 1] = ((n >> 8) % 256) as u8;
 }
 
@@ -39,7 +39,7 @@ fn put_u32(log: &mut [u8], at: usize, w: u32)
     requires { at + 4 ≤ length log.old }
     ensures { log.new ≡ puts log.old at 0 (four w) }
 {
-    log[at + 0] = (w % 256) as u8;
+    log[at] = (w % 256) as u8;
     log[at + 1] = ((w >> 8) % 256) as u8;
     log[at + 2] = ((w >> 16) % 256) as u8;
     log[at + 3] = ((w >> 24) % 256) as u8;
@@ -50,14 +50,11 @@ fn differing(a: &[u32], b: &[u32]) -> u32
     requires { (length a.now ≡ length b.now) × (length a.now ≤ size) }
     ensures { ((i : ℕ) → result ≡ length (changes i a.now b.now)) × (result ≤ size) }
 {
-    let n = a.len();
     let mut k = 0u32;
-    let mut i = 0;
-    while i < n {
+    for i in 0..a.len() {
         if a[i] != b[i] {
             k += 1;
         }
-        i += 1;
     }
     k
 }
@@ -96,10 +93,8 @@ fn put_each(log: &mut [u8], at: usize, origin: usize, a: &mut [u32], b: &[u32]) 
     ensures log { log.new ≡ puts log.old at 0 (change_bytes (changes origin a.old b.now)) }
     ensures words { a.new ≡ b.now }
 {
-    let n = a.len();
     let mut next = at;
-    let mut i = 0;
-    while i < n {
+    for i in 0..a.len() {
         let old = a[i];
         let new = b[i];
         if old != new {
@@ -107,7 +102,6 @@ fn put_each(log: &mut [u8], at: usize, origin: usize, a: &mut [u32], b: &[u32]) 
             a[i] = new;
             next += 6;
         }
-        i += 1;
     }
     next
 }
@@ -138,12 +132,9 @@ fn put_words(log: &mut [u8], at: usize, a: &mut [u32], b: &[u32])
     ensures log { log.new ≡ puts log.old at 0 (word_bytes a.old) }
     ensures words { a.new ≡ b.now }
 {
-    let n = a.len();
-    let mut i = 0;
-    while i < n {
+    for i in 0..a.len() {
         put_u32(log, at + 4 * i, a[i]);
         a[i] = b[i];
-        i += 1;
     }
 }
 

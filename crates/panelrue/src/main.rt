@@ -1,44 +1,45 @@
 // Runs the procedure on standard input for 10,000 steps in a memory of its own, and prints one line: the outcome, or the refusal.
 #![tactic(auto)]
 
-use check_file::Answer;
-use entry_run::Reply;
+use check_file::Refusal;
 use records::format::KEPT_BYTES;
 use run_loop::{Outcome, Ran};
 use state_words::layout::IMAGE_WORDS;
-use texts::{put, put_int, put_numbered, put_refusal};
+use texts::Text;
 
 // Puts an outcome, and its int if it is a value.
-fn put_outcome(out: &mut [u8], outcome: Outcome) -> usize {
+fn put_outcome(outcome: Outcome, out: &mut Text<'_>) {
     match outcome {
         Outcome::Value(v) => {
-            let at = put(out, 0, b"value ");
-            put_int(out, at, arith::bits(v))
+            out.put(b"value ");
+            out.put_int(arith::bits(v));
         }
-        Outcome::Arith => put(out, 0, b"arith"),
-        Outcome::Abort => put(out, 0, b"abort"),
-        Outcome::Spent => put(out, 0, b"Spent"),
-        Outcome::Full => put(out, 0, b"Full"),
+        Outcome::Arith => out.put(b"arith"),
+        Outcome::Abort => out.put(b"abort"),
+        Outcome::Spent => out.put(b"Spent"),
+        Outcome::Full => out.put(b"Full"),
     }
 }
 
 // Puts how a run ended.
-fn put_end(out: &mut [u8], ran: Ran) -> usize {
-    let outcome = ran.outcome;
-    let next = put_outcome(out, outcome);
-    let end = put_numbered(out, next, b" steps ", ran.steps);
-    put(out, end, b"\n")
+fn put_end(ran: Ran, out: &mut Text<'_>) {
+    put_outcome(ran.outcome, out);
+    out.put_numbered(b" steps ", ran.steps);
+    out.put(b"\n");
 }
 
-// Starts a file's procedure, runs it and puts the answer.
-fn put_run(file: &[u8], out: &mut [u8]) -> usize {
+// Starts a file's procedure in a memory of its own and runs it.
+fn start_and_run(file: &[u8]) -> Result<Ran, Refusal> {
     let mut memory = [0u32; IMAGE_WORDS];
-    if let Answer::Refused(r) = entry_start::start(file, &mut memory) {
-        return put_refusal(out, 0, r.question, r.place, r.item);
-    }
-    match entry_run::run(file, &mut memory, 10000) {
-        Reply::Ended(ran) => put_end(out, ran),
-        Reply::Refused(r) => put_refusal(out, 0, r.question, r.place, r.item),
+    entry_start::start(file, &mut memory)?;
+    entry_run::run(file, &mut memory, 10000)
+}
+
+// Puts how the run of a file's procedure ended, or the refusal.
+fn put_run(file: &[u8], out: &mut Text<'_>) {
+    match start_and_run(file) {
+        Ok(ran) => put_end(ran, out),
+        Err(r) => out.put_refusal(r.question, r.place, r.item),
     }
 }
 
@@ -46,6 +47,7 @@ fn main() {
     let mut buffer = [0u8; KEPT_BYTES];
     let n = io::read_full(0, &mut buffer);
     let mut line = [0u8; 64];
-    let k = put_run(&buffer[..n], &mut line);
-    texts::write_out(&line, k);
+    let mut out = Text::new(&mut line);
+    put_run(&buffer[..n], &mut out);
+    out.write_out();
 }

@@ -3,7 +3,7 @@
 
 mod logs;
 
-ghost use Rattle.std.specs.Prelude.{◌≡◌, [], ◌∷◌, leb, length};
+ghost use Rattle.std.specs.Prelude.{◌≡◌, Ok, [], ◌∷◌, leb, length};
 ghost use Rattle.spec_language.specs.Check.{check_of};
 ghost use Rattle.check_file.specs.Answers.{says, SmallRefusal, Small};
 ghost use Rattle.spec_answers.specs.Answers.{start_answer, start_memory, memory_answer, run_answer, run_memory, look_answer};
@@ -12,11 +12,10 @@ ghost use Rattle.entry_memory.specs.Looks.{look_of};
 ghost use Rattle.words.specs.Blocks.{puts};
 ghost use Rattle.varset.specs.Lowest.{pick};
 ghost use Rattle.panelrue_c.specs.Packed.{packed_refusal, packed};
-ghost use Rattle.panelrue_c.specs.HostAnswers.{outcome_number, outcome_word, run_number, run_words, look_number, look_words};
+ghost use Rattle.panelrue_c.specs.HostAnswers.{outcome_number, outcome_word, run_number, run_words, look_number, look_kind, look_word, look_words};
 
-use check_file::{Answer, Refusal};
+use check_file::Refusal;
 use entry_memory::Look;
-use entry_run::Reply;
 use run_loop::{Outcome, Ran};
 
 // The number of a refusal.
@@ -31,13 +30,13 @@ fn pack(refusal: Refusal) -> u64
 }
 
 // The number of an answer.
-fn number(answer: Answer) -> u64
+fn number(answer: Result<(), Refusal>) -> u64
     requires { Small answer }
     ensures { result ≡ packed (says answer) }
 {
     match answer {
-        Answer::Accepted => 0,
-        Answer::Refused(refusal) => pack(refusal),
+        Ok(()) => 0,
+        Err(refusal) => pack(refusal),
     }
 }
 
@@ -98,7 +97,7 @@ fn outcome_word(outcome: Outcome) -> u64
 
 // Outcome, int and steps for the host, where it has room for three words.
 fn tell_run(answer: &mut [u64], r: Ran)
-    ensures { answer.new ≡ run_words (Reply.Ended r) answer.old }
+    ensures { answer.new ≡ run_words (Ok r) answer.old }
 {
     if answer.len() < 3 {
         return;
@@ -124,11 +123,33 @@ pub extern "C" fn panelrue_run(
     ensures told { answer.new ≡ run_words (reply_of (run_answer file.now memory.old allowance)) answer.old }
 {
     match entry_run::run(file, memory, allowance) {
-        Reply::Ended(r) => {
+        Ok(r) => {
             tell_run(answer, r);
             0
         }
-        Reply::Refused(refusal) => pack(refusal),
+        Err(refusal) => pack(refusal),
+    }
+}
+
+// The type of what a variable holds.
+fn look_kind(look: Look) -> u64
+    ensures { result ≡ look_kind look }
+{
+    match look {
+        Look::Nothing => 0,
+        Look::Int(_) => 1,
+        Look::Truth(_) => 2,
+    }
+}
+
+// Its word.
+fn look_word(look: Look) -> u64
+    ensures { result ≡ look_word look }
+{
+    match look {
+        Look::Nothing => 0,
+        Look::Int(z) => arith::bits(z) as u64,
+        Look::Truth(truth) => state_words::bit_of(truth) as u64,
     }
 }
 
@@ -150,18 +171,10 @@ pub extern "C" fn panelrue_look_up(file: &[u8], memory: &[u32], x: u32, answer: 
     ensures told { answer.new ≡ look_words (look_of (look_answer file.now memory.now x)) answer.old }
 {
     match entry_memory::look_up(file, memory, x) {
-        Look::Nothing => {
-            tell_look(answer, 0, 0);
+        Ok(look) => {
+            tell_look(answer, look_kind(look), look_word(look));
             0
         }
-        Look::Int(z) => {
-            tell_look(answer, 1, arith::bits(z) as u64);
-            0
-        }
-        Look::Truth(truth) => {
-            tell_look(answer, 2, state_words::bit_of(truth) as u64);
-            0
-        }
-        Look::Refused(refusal) => pack(refusal),
+        Err(refusal) => pack(refusal),
     }
 }

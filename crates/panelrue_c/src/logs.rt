@@ -1,10 +1,10 @@
 // The entry points that keep a log, for a host.
-ghost use Rattle.std.specs.Prelude.{◌≡◌};
+ghost use Rattle.std.specs.Prelude.{◌≡◌, Ok};
 ghost use Rattle.spec_log.specs.Answers.{log_answer, log_memory, log_after, back_answer, back_memory};
 ghost use Rattle.entry_log.specs.Replies.{log_reply_of, back_reply_of};
 ghost use Rattle.panelrue_c.specs.HostLogs.{stop_number, stop_word, log_number, log_words, back_number, back_words};
 
-use entry_log::{BackReply, LogReply, Logged, Stop};
+use entry_log::{Logged, Stop};
 
 // The number of a logged run's stop.
 fn stop_number(stop: Stop) -> u64
@@ -28,7 +28,7 @@ fn stop_word(stop: Stop) -> u64
 
 // Outcome, int, steps and used length for the host, where it has room for four words.
 fn tell_log(answer: &mut [u64], r: Logged)
-    ensures { answer.new ≡ log_words (LogReply.Stopped r) answer.old }
+    ensures { answer.new ≡ log_words (Ok r) answer.old }
 {
     if answer.len() < 4 {
         return;
@@ -59,17 +59,17 @@ pub extern "C" fn panelrue_run_logged(
     ensures told { answer.new ≡ log_words (log_reply_of (log_answer file.now memory.old allowance log.old used)) answer.old }
 {
     match entry_log::run_logged(file, memory, allowance, log, used) {
-        LogReply::Stopped(r) => {
+        Ok(r) => {
             tell_log(answer, r);
             0
         }
-        LogReply::Refused(refusal) => crate::pack(refusal),
+        Err(refusal) => crate::pack(refusal),
     }
 }
 
 // The used length for the host, where it has room for a word.
 fn tell_back(answer: &mut [u64], used: usize)
-    ensures { answer.new ≡ back_words (BackReply.Went used) answer.old }
+    ensures { answer.new ≡ back_words (Ok used) answer.old }
 {
     if answer.len() < 1 {
         return;
@@ -91,10 +91,10 @@ pub extern "C" fn panelrue_step_back(
     ensures told { answer.new ≡ back_words (back_reply_of (back_answer file.now memory.old log.now used)) answer.old }
 {
     match entry_log::step_back(file, memory, log, used) {
-        BackReply::Went(rest) => {
+        Ok(rest) => {
             tell_back(answer, rest);
             0
         }
-        BackReply::Refused(refusal) => crate::pack(refusal),
+        Err(refusal) => crate::pack(refusal),
     }
 }

@@ -1,5 +1,6 @@
 -- What a loop that looks for the lowest failing record shows, for any test.
-use mathlib.Core.Path.{◌≡◌, refl, ap}
+use Rattle.std.specs.Prelude.{Option, Some, None}
+use mathlib.Core.Path.{◌≡◌, refl, ap, sym}
 use mathlib.Core.Bool.{Bool, true, false}
 use Prim.Native.Nat.{ℕ, zero, suc, ◌≤◌, ◌<◌, zero-le, suc-le-suc}
 use native.Mathlib.Nat.{not-suc-le-zero, le_of_suc-le-suc, zero-lt-suc}
@@ -7,8 +8,25 @@ use native.Mathlib.Omega.{arith}
 use lib.Dec.{ltb}
 use borrow.Author.Tests.{lt-ltb, le-ltb, ltb-true, ltb-false}
 use Rattle.varset.specs.Lowest.{pick, lowest}
-use Rattle.records.specs.Search.{first_of}
-use Rattle.records.specs.declared.Found.TheVariants.{At, Nothing}
+use Rattle.records.specs.declared.Found.{Found}
+use Rattle.records.specs.Search.{At, first_of}
+
+-- two searches that found the same found it at one place, with one item
+at_place : Option Found → ℕ
+at_place (Some found) = found.place
+at_place None = 0
+
+at_item : Option Found → ℕ
+at_item (Some found) = found.item
+at_item None = 0
+
+pub one_place : {i x j y : ℕ} → At i x ≡ At j y → i ≡ j
+unfolding at_place
+one_place e = ap at_place e
+
+pub one_item : {i x j y : ℕ} → At i x ≡ At j y → x ≡ y
+unfolding at_item
+one_item e = ap at_item e
 
 -- no number below i passes the test
 abbrev pub Below : (ℕ → Bool) → ℕ → Type 0
@@ -60,7 +78,7 @@ pub first-at : (p : ℕ → Bool) (n i : ℕ) → i < n → Below p i → p i �
 unfolding first_of
 first-at p n i h b e = rw (lowest_at p n i h b e, lt-ltb i n h)
 
-pub first-none : (p : ℕ → Bool) (n i : ℕ) → n ≤ i → Below p i → Nothing ≡ first_of p n
+pub first-none : (p : ℕ → Bool) (n i : ℕ) → n ≤ i → Below p i → None ≡ first_of p n
 unfolding first_of
 first-none p n i h b = rw (lowest_none p n (λ k l. b k (omega arith)), le-ltb n n (omega arith))
 
@@ -69,16 +87,16 @@ pub found_below : (p : ℕ → Bool) (n i x : ℕ) → At i x ≡ first_of p n �
 unfolding first_of
 found_below p n i x e = go (ltb (lowest p n) n) refl e
   where
-    go : (b : Bool) → ltb (lowest p n) n ≡ b → At i x ≡ pick b (At (lowest p n) 0) Nothing → i < n
-    go true q e = let j : i ≡ lowest p n = cc in let l : lowest p n < n = ltb-true (lowest p n) n q in omega arith
+    go : (b : Bool) → ltb (lowest p n) n ≡ b → At i x ≡ pick b (At (lowest p n) 0) None → i < n
+    go true q e = let j : i ≡ lowest p n = one_place e in let l : lowest p n < n = ltb-true (lowest p n) n q in omega arith
     go false q e = let z : ◌≡◌ {A = ℕ} 0 1 = cc in absurd (omega arith)
 
 -- where nothing is found none of n passes
-pub none_found : (p : ℕ → Bool) (n : ℕ) → first_of p n ≡ Nothing → Below p n
+pub none_found : (p : ℕ → Bool) (n : ℕ) → first_of p n ≡ None → Below p n
 unfolding first_of
 none_found p n e = go (ltb (lowest p n) n) refl e
   where
-    go : (b : Bool) → ltb (lowest p n) n ≡ b → pick b (At (lowest p n) 0) Nothing ≡ Nothing → Below p n
+    go : (b : Bool) → ltb (lowest p n) n ≡ b → pick b (At (lowest p n) 0) None ≡ None → Below p n
     go true q e = let z : ◌≡◌ {A = ℕ} 0 1 = cc in absurd (omega arith)
     go false q e =
         let l : n ≤ lowest p n = ltb-false (lowest p n) n q in
@@ -89,6 +107,6 @@ pub first_lowest : (p : ℕ → Bool) (n k x : ℕ) → first_of p n ≡ At k x 
 unfolding first_of
 first_lowest p n k x e = go (ltb (lowest p n) n) refl e
   where
-    go : (b : Bool) → ltb (lowest p n) n ≡ b → pick b (At (lowest p n) 0) Nothing ≡ At k x → (p k ≡ true) × Below p k
-    go true q e = let j : k ≡ lowest p n = cc in rw j (lowest_passes p n (ltb-true (lowest p n) n q), lowest_below p n)
+    go : (b : Bool) → ltb (lowest p n) n ≡ b → pick b (At (lowest p n) 0) None ≡ At k x → (p k ≡ true) × Below p k
+    go true q e = let j : k ≡ lowest p n = sym (one_place e) in rw j (lowest_passes p n (ltb-true (lowest p n) n q), lowest_below p n)
     go false q e = let z : ◌≡◌ {A = ℕ} 0 1 = cc in absurd (omega arith)

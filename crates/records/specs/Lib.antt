@@ -4,5 +4,6 @@ pub mod Fields
 pub mod Parts
 pub mod Search
 pub mod Children
+pub mod Numbered
 pub mod Build
 pub mod Starts

@@ -5,37 +5,48 @@ pub mod format;
 pub mod nodes;
 pub mod starts;
 
-ghost use Rattle.std.specs.Prelude.{◌≡◌, ℕ, ◌+◌, ◌*◌, ◌-◌, ◌^◌, ◌≤◌, ◌<◌, ltb, length};
+ghost use Rattle.std.specs.Prelude.{◌≡◌, Bool, ℕ, ◌+◌, ◌*◌, ◌-◌, ◌^◌, ◌≤◌, ◌<◌, ltb, length};
 ghost use Rattle.records.specs.Bytes.{u16_at, u32_at};
 ghost use Rattle.records.specs.Fields.{mark_at, functions, nodes, edition_of, result_of, params_of, vars_of, mask_of, count_of};
-ghost use Rattle.records.specs.Search.{shift, or_else};
+ghost use Rattle.records.specs.Search.{At, first_of, shift, or_else};
 
 // The place and the item that a search finds.
 #[derive(Clone, Copy)]
-pub enum Found {
-    At(usize, u32),
-    Nothing,
+pub struct Found {
+    pub place: usize,
+    pub item: u32,
 }
 
 // The place counted from `origin` on.
-pub fn shift_by(found: Found, origin: usize) -> Found
-    requires { (i x : ℕ) → found ≡ Found.At i x → origin + i < 65536 }
+pub fn shift_by(found: Option<Found>, origin: usize) -> Option<Found>
+    requires { (i x : ℕ) → found ≡ At i x → origin + i < 65536 }
     ensures { result ≡ shift origin found }
 {
-    match found {
-        Found::At(place, item) => Found::At(origin + place, item),
-        Found::Nothing => Found::Nothing,
-    }
+    let Found { place, item } = found?;
+    Some(Found {
+        place: origin + place,
+        item,
+    })
 }
 
 // What the first search found, or else the second.
-pub fn or_else(found: Found, later: Found) -> Found
+pub fn or_else(found: Option<Found>, later: Option<Found>) -> Option<Found>
     ensures { result ≡ or_else found later }
 {
-    match found {
-        Found::At(place, item) => Found::At(place, item),
-        Found::Nothing => later,
+    found.or(later)
+}
+
+// The lowest of n numbers that passes a test, as the place that is found.
+pub fn first_of<F: Fn(usize) -> bool>(n: usize, test: F) -> Option<Found>
+    requires { (i : ℕ) → i < n → F.pre test i }
+    ensures { (p : ℕ → Bool) → ((i : ℕ) (b : Bool) → i < n → F.post test i b → b ≡ p i) → result ≡ first_of p n }
+{
+    for place in 0..n {
+        if test(place) {
+            return Some(Found { place, item: 0 });
+        }
     }
+    None
 }
 
 // A byte as a wider number.

@@ -1,7 +1,9 @@
-// The fields of nodes, and how many children a node has.
+// The fields of nodes, and their children.
 ghost use Rattle.std.specs.Prelude.{◌≡◌, ◌+◌, ◌*◌, ◌-◌, ◌≤◌, ◌<◌, length};
+ghost use Rattle.std.specs.Iterator.{YieldsFirst, item_count};
 ghost use Rattle.records.specs.Fields.{kind_at, a_at, b_at, size_at};
 ghost use Rattle.records.specs.Children.{arity_of, arity_at};
+ghost use Rattle.records.specs.Numbered.{left_of};
 
 // The kind of node i of a part.
 pub fn kind_at(part: &[u8], i: usize) -> u8
@@ -67,4 +69,44 @@ pub fn arity_at(part: &[u8], i: usize) -> usize
     ensures { (result ≡ arity_at part.now i) × (result < 256) }
 {
     arity(kind_at(part, i), a_at(part, i))
+}
+
+// The children of a node of a part that are still to come: each with its number, the last first.
+#[derive(Drop)]
+pub struct Children<'a> {
+    pub part: &'a [u8],
+    pub left: usize,
+    pub last: usize,
+}
+
+impl<'a> Iterator for Children<'a> {
+    type Item = (usize, usize);
+
+    ghost can_next = { λ s. 12 * s.last + 12 ≤ length s.part.now };
+
+    ghost next_gives = { YieldsFirst (λ s. left_of s.part.now s.left s.last) };
+
+    ghost remaining = { item_count (λ s. left_of s.part.now s.left s.last) };
+
+    fn next(&mut self) -> Option<(usize, usize)> {
+        if self.left == 0 {
+            return None;
+        }
+        self.left -= 1;
+        let child = self.last;
+        self.last = prior(self.part, child);
+        Some((self.left, child))
+    }
+}
+
+// The children of node i of a part.
+pub fn children_of(part: &[u8], i: usize) -> Children<'_>
+    requires { 12 * i + 12 ≤ length part.now }
+    ensures { (result.part.now ≡ part.now) × (result.left ≡ arity_at part.now i) × (result.last ≡ i - 1) × (result.left < 256) }
+{
+    Children {
+        part,
+        left: arity_at(part, i),
+        last: crate::minus(i, 1),
+    }
 }

@@ -12,12 +12,10 @@ pub fn starts_of(file: &[u8]) -> [usize; MOST_FUNCTIONS]
 {
     let functions = function_count(file);
     let mut starts = [0usize; MOST_FUNCTIONS];
-    let mut f = 0;
     let mut start = RECORD * (1 + functions);
-    while f < functions {
+    for f in 0..functions {
         starts[f] = start;
         start += RECORD * count_of(file, f);
-        f += 1;
     }
     starts
 }

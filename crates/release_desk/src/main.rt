@@ -6,191 +6,158 @@
 
 ghost use Rattle.std.specs.Prelude.{◌≤◌, length};
 
-use check_file::Answer;
-use desk_files::Content;
-use desk_lines::Style;
-use desk_lines::counts::{COUNTERS, PASSED, UNREAD, count};
+use desk_files::{NAME_TOO_LONG, SystemError};
+use desk_lines::counts::{Tally, put_counts};
+use desk_lines::{Form, Style};
 use records::format::KEPT_BYTES;
 use std::io::{Input, Read};
 use std::rt::{Env, Files};
+use texts::Text;
 
-// The number of the error of a name that is too long.
-const NAME_TOO_LONG: i32 = 36;
+// How many bytes a name has at most.
+const LONGEST_NAME: usize = 4096;
 
-// How the desk speaks, and how many bytes wait.
-#[derive(Clone, Copy)]
-struct Desk {
-    style: Style,
-    at: usize,
-}
-
-// A list of names while it is read: the desk, the length of the name so far, and whether it is too long for one.
-#[derive(Clone, Copy)]
-struct Listed {
-    desk: Desk,
-    length: usize,
+// A name while it is read: its bytes so far, and whether it has more than a name may have.
+#[derive(Drop)]
+struct Name {
+    bytes: [u8; LONGEST_NAME],
+    used: usize,
     long: bool,
+    ghost inside: { used ≤ length bytes },
 }
 
-// Says what the check says of a file that was read, and counts it.
-fn serve_content(
-    name: &[u8],
-    file: &[u8],
-    revision: &[u8],
-    out: &mut [u8],
-    tally: &mut [u64],
-    desk: Desk,
-) -> usize {
-    let style = desk.style;
-    match check_file::check(file) {
-        Answer::Accepted => {
-            count(tally, PASSED);
-            desk_lines::put_passed(style, name, file, revision, out, desk.at)
-        }
-        Answer::Refused(refusal) => {
-            count(tally, refusal.question as usize);
-            desk_lines::put_refused(style, name, file, refusal, revision, out, desk.at)
+impl Name {
+    // A name of which nothing is read yet.
+    fn new() -> Name {
+        Name {
+            bytes: [0; LONGEST_NAME],
+            used: 0,
+            long: false,
         }
     }
-}
 
-// Says why a file cannot be read, and counts it.
-fn serve_error(
-    name: &mut [u8],
-    error: i32,
-    revision: &[u8],
-    out: &mut [u8],
-    tally: &mut [u64],
-    desk: Desk,
-) -> usize {
-    count(tally, UNREAD);
-    desk_lines::put_unread(desk.style, name, error, revision, out, desk.at)
-}
-
-// Makes a name printable where it is printed as it is.
-fn make_printed(name: &mut [u8], style: Style) {
-    if !style.json {
-        desk_files::make_plain(name);
-    }
-}
-
-// Serves one file: reads it, checks it and says what came of it.
-fn serve(
-    rt: &impl Files,
-    name: &mut [u8],
-    file: &mut [u8],
-    revision: &[u8],
-    out: &mut [u8],
-    tally: &mut [u64],
-    desk: Desk,
-) -> Desk {
-    let style = desk.style;
-    let content = desk_files::content_of(rt, name, file);
-    make_printed(name, style);
-    let at = match content {
-        Content::Failed(error) => serve_error(name, error, revision, out, tally, desk),
-        Content::Bytes(n) => {
-            let start = 0;
-            serve_content(name, &file[start..n], revision, out, tally, desk)
+    // Adds a byte, where there is room.
+    fn push(&mut self, b: u8) {
+        if self.used < LONGEST_NAME {
+            self.bytes[self.used] = b;
+            self.used += 1;
+        } else {
+            self.long = true;
         }
-    };
-    Desk { style, at }
-}
-
-// Says of a name of which the first bytes are known that it is too long.
-fn serve_long(
-    name: &mut [u8],
-    revision: &[u8],
-    out: &mut [u8],
-    tally: &mut [u64],
-    desk: Desk,
-) -> Desk {
-    let style = desk.style;
-    make_printed(name, style);
-    let at = serve_error(name, NAME_TOO_LONG, revision, out, tally, desk);
-    Desk { style, at }
-}
-
-// Adds a byte to the name that is being read.
-fn gather(b: u8, name: &mut [u8], listed: Listed) -> Listed {
-    let desk = listed.desk;
-    let length = listed.length;
-    if name.len() <= length {
-        return Listed {
-            desk,
-            length,
-            long: true,
-        };
     }
-    name[length] = b;
-    Listed {
-        desk,
-        length: length + 1,
-        long: listed.long,
+
+    // Begins the next name.
+    fn clear(&mut self) {
+        self.used = 0;
+        self.long = false;
     }
 }
 
-// Serves the file of the name that has been read.
-fn serve_listed(
-    rt: &impl Files,
-    name: &mut [u8],
-    file: &mut [u8],
-    revision: &[u8],
-    out: &mut [u8],
-    tally: &mut [u64],
-    listed: Listed,
-) -> Desk {
-    let desk = listed.desk;
-    let n = listed.length;
-    if listed.long {
-        return serve_long(name, revision, out, tally, desk);
-    }
-    if name.len() < n {
-        return desk;
-    }
-    let start = 0;
-    serve(rt, &mut name[start..n], file, revision, out, tally, desk)
+// The desk: how it speaks, the revision that it names, the file that it reads, what it says and what it counts.
+#[derive(Drop)]
+struct Desk<'r, 'o> {
+    style: Style,
+    revision: &'r [u8],
+    file: [u8; KEPT_BYTES],
+    out: Text<'o>,
+    tally: Tally,
 }
 
-// Takes in a byte of a list of names, each of which ends with a zero byte.
-fn serve_byte(
-    rt: &impl Files,
-    b: u8,
-    name: &mut [u8],
-    file: &mut [u8],
-    revision: &[u8],
-    out: &mut [u8],
-    tally: &mut [u64],
-    listed: Listed,
-) -> Listed {
-    if b != 0 {
-        return gather(b, name, listed);
+impl Desk<'_, '_> {
+    // Says what the check says of a file of n bytes that was read, and counts it.
+    fn serve_content(&mut self, name: &[u8], n: usize)
+        requires { n ≤ length self.old.file }
+    {
+        let file = &self.file[..n];
+        match check_file::check(file) {
+            Ok(()) => {
+                self.tally.count_passed();
+                desk_lines::put_passed(self.style, name, file, self.revision, &mut self.out);
+            }
+            Err(r) => {
+                self.tally.count_refused(r.question);
+                desk_lines::put_refused(self.style, name, file, r, self.revision, &mut self.out);
+            }
+        }
     }
-    Listed {
-        desk: serve_listed(rt, name, file, revision, out, tally, listed),
-        length: 0,
-        long: false,
-    }
-}
 
-// Takes in some bytes of a list of names.
-fn serve_bytes(
-    rt: &impl Files,
-    bytes: &[u8],
-    name: &mut [u8],
-    file: &mut [u8],
-    revision: &[u8],
-    out: &mut [u8],
-    tally: &mut [u64],
-    listed: Listed,
-) -> Listed {
-    let mut state = listed;
-    let mut i = 0;
-    while i < bytes.len() {
-        state = serve_byte(rt, bytes[i], name, file, revision, out, tally, state);
-        i += 1;
+    // Says why a file cannot be read, and counts it.
+    fn serve_error(&mut self, name: &[u8], error: SystemError) {
+        self.tally.count_unread();
+        desk_lines::put_unread(self.style, name, error, self.revision, &mut self.out);
     }
-    state
+
+    // Makes a name printable where it is printed as it is.
+    fn make_printed(&self, name: &mut [u8]) {
+        match self.style.form {
+            Form::Object => {}
+            Form::Line | Form::Listing => desk_files::make_plain(name),
+        }
+    }
+
+    // Serves one file: reads it, checks it and says what came of it.
+    fn serve(&mut self, rt: &impl Files, name: &mut [u8]) {
+        let content = desk_files::content_of(rt, name, &mut self.file);
+        self.make_printed(name);
+        match content {
+            Ok(n) => self.serve_content(name, n),
+            Err(error) => self.serve_error(name, error),
+        }
+    }
+
+    // Serves the file of a name that has been read.
+    fn serve_name(&mut self, rt: &impl Files, name: &Name) {
+        let mut bytes = name.bytes;
+        let text = &mut bytes[..name.used];
+        if name.long {
+            self.make_printed(text);
+            self.serve_error(text, NAME_TOO_LONG);
+        } else {
+            self.serve(rt, text);
+        }
+    }
+
+    // Takes in a byte of a list of names, each of which ends with a zero byte.
+    fn take(&mut self, rt: &impl Files, b: u8, name: &mut Name) {
+        if b == 0 {
+            self.serve_name(rt, name);
+            name.clear();
+        } else {
+            name.push(b);
+        }
+    }
+
+    // Takes in some bytes of a list of names.
+    fn take_all(&mut self, rt: &impl Files, bytes: &[u8], name: &mut Name) {
+        for b in bytes {
+            self.take(rt, *b, name);
+        }
+    }
+
+    // Serves the names that standard input ends with a zero byte. No run uses up the number of turns.
+    fn serve_ended(&mut self, rt: &(impl Files + Input), name: &mut Name) {
+        let mut input = rt.reader();
+        let mut bytes = [0u8; 4096];
+        for _ in 0..u64::MAX {
+            let n = read_some(&mut input, &mut bytes);
+            if n == 0 {
+                return;
+            }
+            self.take_all(rt, &bytes[..n], name);
+        }
+    }
+
+    // Serves the files that standard input names, the last name with or without a zero byte, and writes out what is said of them with
+    // the counts.
+    fn serve_list(&mut self, rt: &(impl Files + Input)) {
+        let mut name = Name::new();
+        self.serve_ended(rt, &mut name);
+        if 0 < name.used {
+            self.serve_name(rt, &name);
+        }
+        put_counts(&self.tally, &mut self.out);
+        self.out.write_out();
+    }
 }
 
 // Reads what bytes there are, and none where the input ends or cannot be read.
@@ -201,53 +168,6 @@ fn read_some<I: Read>(input: &mut I, bytes: &mut [u8]) -> usize
         Ok(n) => n,
         Err(_) => 0,
     }
-}
-
-// Serves the names that standard input ends with a zero byte. The turns are counted down from a number that no run uses up, so that it ends.
-fn serve_ended(
-    rt: &(impl Files + Input),
-    name: &mut [u8],
-    file: &mut [u8],
-    revision: &[u8],
-    out: &mut [u8],
-    tally: &mut [u64],
-    listed: Listed,
-) -> Listed {
-    let mut input = rt.reader();
-    let mut bytes = [0u8; 4096];
-    let mut state = listed;
-    let mut turns = u64::MAX;
-    while turns > 0 {
-        let n = read_some(&mut input, &mut bytes);
-        if n == 0 {
-            return state;
-        }
-        state = serve_bytes(rt, &bytes[..n], name, file, revision, out, tally, state);
-        turns -= 1;
-    }
-    state
-}
-
-// Serves the files that standard input names, the last name with or without a zero byte.
-fn serve_list(
-    rt: &(impl Files + Input),
-    name: &mut [u8],
-    file: &mut [u8],
-    revision: &[u8],
-    out: &mut [u8],
-    tally: &mut [u64],
-    desk: Desk,
-) -> Desk {
-    let none = Listed {
-        desk,
-        length: 0,
-        long: false,
-    };
-    let ended = serve_ended(rt, name, file, revision, out, tally, none);
-    if ended.length == 0 {
-        return ended.desk;
-    }
-    serve_listed(rt, name, file, revision, out, tally, ended)
 }
 
 // Puts argument i at the start of a text and answers its length, or 0 where it is missing or longer than the text.
@@ -264,30 +184,34 @@ fn put_argument(rt: &impl Env, i: usize, text: &mut [u8]) -> usize
 fn is_argument(rt: &impl Env, i: usize, word: &[u8]) -> bool {
     let mut text = [0u8; 16];
     let n = put_argument(rt, i, &mut text);
-    check::same(&text[..n], word)
+    &text[..n] == word
 }
 
-// Serves the files that standard input names, and writes out what is said of them with the counts.
-fn serve_all(rt: &(impl Files + Input), style: Style, revision: &[u8]) {
-    let mut name = [0u8; 4096];
-    let mut file = [0u8; KEPT_BYTES];
-    let mut out = [0u8; 4096];
-    let mut tally = [0u64; COUNTERS];
-    let begun = Desk { style, at: 0 };
-    let served = serve_list(
-        rt, &mut name, &mut file, revision, &mut out, &mut tally, begun,
-    );
-    let end = desk_lines::counts::put_counts(&tally, &mut out, served.at);
-    texts::write_out(&out, end);
+// The form that the first argument asks for.
+fn form_asked(rt: &impl Env) -> Form {
+    if is_argument(rt, 1, b"show") {
+        Form::Listing
+    } else if is_argument(rt, 1, b"json") {
+        Form::Object
+    } else {
+        Form::Line
+    }
 }
 
+// Serves the files that standard input names, in the form that the arguments ask for.
 fn main(rt: HostRuntime) {
     let mut revision = [0u8; 128];
-    let style = Style {
-        show: is_argument(&rt, 1, b"show"),
-        quiet: is_argument(&rt, 2, b"refused"),
-        json: is_argument(&rt, 1, b"json"),
-    };
     let n = put_argument(&rt, 3, &mut revision);
-    serve_all(&rt, style, &revision[..n]);
+    let mut buffer = [0u8; 4096];
+    let mut desk = Desk {
+        style: Style {
+            form: form_asked(&rt),
+            quiet: is_argument(&rt, 2, b"refused"),
+        },
+        revision: &revision[..n],
+        file: [0; KEPT_BYTES],
+        out: Text::new(&mut buffer),
+        tally: Tally::new(),
+    };
+    desk.serve_list(&rt);
 }

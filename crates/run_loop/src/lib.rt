@@ -131,13 +131,11 @@ fn go(
 {
     let mut c = from;
     let mut h = head;
-    let mut steps = taken;
-    while steps < allowed {
+    for steps in taken..allowed {
         match run_step::step(file, starts, m, c, h) {
             Stepped::Went(next, on) => {
                 c = next;
                 h = on;
-                steps += 1;
             }
             Stepped::Full => return stop(m, c, h, Outcome::Full, steps),
             Stepped::Returned(word) => return finish(m, word, steps + 1, allowed),
@@ -145,7 +143,7 @@ fn go(
             Stepped::Abort => return fail(m, TAG_ABORT, Outcome::Abort, steps + 1),
         }
     }
-    stop(m, c, h, Outcome::Spent, steps)
+    stop(m, c, h, Outcome::Spent, allowed)
 }
 
 // A run from the int that the entry function has returned.

@@ -124,7 +124,7 @@ pub fn leave(
     requires caller { Called file.now h m.old }
     ensures { (α : RunEnv) (f : ℕ) (η : List values.Value) (J : List Frame) (g : ℕ) (θ : List values.Value) (L : List Frame) (A : List Saved) (R : Rest) → m.old ≡ core f η J (saved g θ L ∷ A) ++ R α → Describes file.now h f J (saved g θ L ∷ A) → StepsTo file.now result m.old m.new R (running (machine.val (value_is v)) α g θ L A) }
 {
-    let c = state_words::at_hand(v);
+    let c = Control::from(v);
     let callers = h.callers - 1;
     let function = state_stack::activations::caller_function(m, callers) as usize;
     let frames = state_stack::activations::caller_frames(m, callers) as usize;

@@ -55,12 +55,8 @@ pub fn gather(
     Stepped::Went(
         reach(part, first as u32),
         Registers {
-            function: h.function,
-            start: h.start,
-            count: h.count,
-            callers: h.callers,
             frames: h.frames + 1,
-            under: h.under,
+            ..h
         },
     )
 }

@@ -52,12 +52,8 @@ pub fn lay(m: &mut [u32], h: Registers, kind: u32, x: u32, y: u32, c: Control) -
     Stepped::Went(
         c,
         Registers {
-            function: h.function,
-            start: h.start,
-            count: h.count,
-            callers: h.callers,
             frames: h.frames + 1,
-            under: h.under,
+            ..h
         },
     )
 }
@@ -69,17 +65,7 @@ pub fn take_off(m: &mut [u32], h: Registers, c: Control) -> Stepped
 {
     let frames = h.frames - 1;
     state_stack::pop(m, h.under + frames);
-    Stepped::Went(
-        c,
-        Registers {
-            function: h.function,
-            start: h.start,
-            count: h.count,
-            callers: h.callers,
-            frames,
-            under: h.under,
-        },
-    )
+    Stepped::Went(c, Registers { frames, ..h })
 }
 
 // Stores a value in variable x.

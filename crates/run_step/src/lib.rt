@@ -160,7 +160,7 @@ fn open(
             let x = b_at(part, at) as usize;
             let callers = h.callers;
             let v = state_stack::variable(m, callers, x);
-            Stepped::Went(state_words::at_hand(v), h)
+            Stepped::Went(Control::from(v), h)
         }
         3 => run_rules::gathering::gather(
             part,

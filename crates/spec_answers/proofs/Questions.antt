@@ -1,4 +1,5 @@
 -- Questions put one after another, and what an accepted answer says of each.
+use Rattle.std.specs.Prelude.{Some, None}
 use mathlib.Core.Path.{◌≡◌, refl, sym, ◌∙◌}
 use mathlib.Core.Bool.{Bool, true, false}
 use mathlib.Core.List.{List, [], ◌∷◌, ◌++◌}
@@ -6,8 +7,7 @@ use Prim.Native.Nat.{ℕ, ◌≤◌}
 use native.Mathlib.Omega.{arith}
 use lib.ListN.{length}
 use borrow.Author.Tests.{le-leb, leb-true}
-use Rattle.records.specs.Search.{unless}
-use Rattle.records.specs.declared.Found.TheVariants.{At, Nothing}
+use Rattle.records.specs.Search.{At, unless}
 use Rattle.spec_language.specs.Check.{accepted, refused, Asked, ask, questions, refuse, first_refusal, check_of}
 use Rattle.spec_machine.specs.Run.{look_up}
 use Rattle.spec_machine.specs.File.{program_of}
@@ -24,22 +24,22 @@ never q p x e = let z : ◌≡◌ {A = ℕ} 0 1 = cc in absurd (omega arith)
 pub put_after : (qs rs : List Asked) → first_refusal qs ≡ accepted → first_refusal (qs ++ rs) ≡ first_refusal rs
 unfolding first_refusal refuse
 put_after [] rs e = refl
-put_after (ask k (At p x) ∷ qs) rs e = never k p x e
-put_after (ask k Nothing ∷ qs) rs e = put_after qs rs e
+put_after (ask k (Some found) ∷ qs) rs e = never k found.place found.item e
+put_after (ask k None ∷ qs) rs e = put_after qs rs e
 
 -- a refusal is the first one
 pub put_early : (qs rs : List Asked) (k p x : ℕ) → first_refusal qs ≡ refused k p x → first_refusal (qs ++ rs) ≡ refused k p x
 unfolding first_refusal refuse
 put_early [] rs k p x e = never k p x (sym e)
-put_early (ask j (At i y) ∷ qs) rs k p x e = e
-put_early (ask j Nothing ∷ qs) rs k p x e = put_early qs rs k p x e
+put_early (ask j (Some found) ∷ qs) rs k p x e = e
+put_early (ask j None ∷ qs) rs k p x e = put_early qs rs k p x e
 
 -- where all pass, the first ones do
 pub put_front : (qs rs : List Asked) → first_refusal (qs ++ rs) ≡ accepted → first_refusal qs ≡ accepted
 unfolding first_refusal refuse
 put_front [] rs e = refl
-put_front (ask k (At p x) ∷ qs) rs e = never k p x e
-put_front (ask k Nothing ∷ qs) rs e = put_front qs rs e
+put_front (ask k (Some found) ∷ qs) rs e = never k found.place found.item e
+put_front (ask k None ∷ qs) rs e = put_front qs rs e
 
 -- and so do the later ones
 pub put_rest : (qs rs : List Asked) → first_refusal (qs ++ rs) ≡ accepted → first_refusal rs ≡ accepted

@@ -1,4 +1,5 @@
 -- An accepted file, question by question: the check accepts it exactly where every record passes every question.
+use Rattle.std.specs.Prelude.{Some, Option, None}
 use mathlib.Core.Path.{◌≡◌, refl, sym}
 use mathlib.Core.Bool.{Bool, true, false, not}
 use mathlib.Core.List.{List, ◌∷◌}
@@ -11,9 +12,8 @@ use Rattle.varset.specs.Lowest.{pick, lowest}
 use Rattle.varset.specs.Sets.{below}
 use Rattle.records.specs.Fields.{functions, params_of, vars_of, count_of}
 use Rattle.records.specs.Parts.{part_of, Laid}
-use Rattle.records.specs.Search.{first_of, shift, or_else, first_in, unless}
+use Rattle.records.specs.Search.{At, first_of, shift, or_else, first_in, unless}
 use Rattle.records.specs.declared.Found.{Found}
-use Rattle.records.specs.declared.Found.TheVariants.{At, Nothing}
 use Rattle.records.proofs.Loops.{Below, first-none, none_found, lowest_none, lowest_below}
 use Rattle.records.proofs.PartWalks.{none_in}
 use Rattle.spec_language.specs.Statements.{statement_at}
@@ -38,97 +38,97 @@ pub record Accepted (s : List ℕ) : Type 0 where
   pub ten : (f x : ℕ) → f < functions s → x < vars_of s f → undeclared s f (part_of s f) (count_of s f) x ≡ false
   pub eleven : (f i : ℕ) → f < functions s → i < count_of s f → outside s f (part_of s f) (count_of s f) i ≡ false
   pub twelve : (f i : ℕ) → f < functions s → i < count_of s f → mistyped s f (part_of s f) (count_of s f) i ≡ false
-  pub thirteen : (f : ℕ) → f < functions s → lacks (statement_at (part_of s f) (count_of s f - 1)) (below (params_of s f)) ≡ Nothing
+  pub thirteen : (f : ℕ) → f < functions s → lacks (statement_at (part_of s f) (count_of s f - 1)) (below (params_of s f)) ≡ None
   pub fourteen : (f : ℕ) → f < functions s → returns (statement_at (part_of s f) (count_of s f - 1)) ≡ true
 
 -- ---- a question that finds nothing, both ways
 
-put_first : (q : ℕ) (a : Found) (rest : List Asked) → first_refusal (ask q a ∷ rest) ≡ accepted → (a ≡ Nothing) × (first_refusal rest ≡ accepted)
+put_first : (q : ℕ) (a : Option Found) (rest : List Asked) → first_refusal (ask q a ∷ rest) ≡ accepted → (a ≡ None) × (first_refusal rest ≡ accepted)
 unfolding first_refusal refuse
-put_first q (At p x) rest e = let z : ◌≡◌ {A = ℕ} 0 1 = cc in absurd (omega arith)
-put_first q Nothing rest e = (refl, e)
+put_first q (Some found) rest e = let z : ◌≡◌ {A = ℕ} 0 1 = cc in absurd (omega arith)
+put_first q None rest e = (refl, e)
 
-put_next : (q : ℕ) (a : Found) (rest : List Asked) → a ≡ Nothing → first_refusal rest ≡ accepted → first_refusal (ask q a ∷ rest) ≡ accepted
+put_next : (q : ℕ) (a : Option Found) (rest : List Asked) → a ≡ None → first_refusal rest ≡ accepted → first_refusal (ask q a ∷ rest) ≡ accepted
 unfolding first_refusal refuse
 put_next q a rest e r = rw e r
 
-pub unless_none : (b : Bool) (p : ℕ) → unless b p ≡ Nothing → b ≡ true
+pub unless_none : (b : Bool) (p : ℕ) → unless b p ≡ None → b ≡ true
 unfolding unless
 unless_none true p e = refl
 unless_none false p e = let z : ◌≡◌ {A = ℕ} 0 1 = cc in absurd (omega arith)
 
-pub none_unless : (b : Bool) (p : ℕ) → b ≡ true → unless b p ≡ Nothing
+pub none_unless : (b : Bool) (p : ℕ) → b ≡ true → unless b p ≡ None
 unfolding unless
 none_unless b p e = rw e
 
-pub shift_none : (k : ℕ) (a : Found) → shift k a ≡ Nothing → a ≡ Nothing
+pub shift_none : (k : ℕ) (a : Option Found) → shift k a ≡ None → a ≡ None
 unfolding shift
-shift_none k (At i x) e = let z : ◌≡◌ {A = ℕ} 0 1 = cc in absurd (omega arith)
-shift_none k Nothing e = refl
+shift_none k (Some found) e = let z : ◌≡◌ {A = ℕ} 0 1 = cc in absurd (omega arith)
+shift_none k None e = refl
 
-none_shift : (k : ℕ) (a : Found) → a ≡ Nothing → shift k a ≡ Nothing
+none_shift : (k : ℕ) (a : Option Found) → a ≡ None → shift k a ≡ None
 unfolding shift
 none_shift k a e = rw e
 
-pub all_pass : (p : ℕ → Bool) (n : ℕ) → first_of (λ i. not (p i)) n ≡ Nothing → (i : ℕ) → i < n → p i ≡ true
+pub all_pass : (p : ℕ → Bool) (n : ℕ) → first_of (λ i. not (p i)) n ≡ None → (i : ℕ) → i < n → p i ≡ true
 all_pass p n e i h = not-false (p i) (none_found (λ i. not (p i)) n e i h)
 
-pub pass_all : (p : ℕ → Bool) (n : ℕ) → ((i : ℕ) → i < n → p i ≡ true) → first_of (λ i. not (p i)) n ≡ Nothing
+pub pass_all : (p : ℕ → Bool) (n : ℕ) → ((i : ℕ) → i < n → p i ≡ true) → first_of (λ i. not (p i)) n ≡ None
 pass_all p n h = sym (first-none (λ i. not (p i)) n n (omega arith) (λ k l. rw (h k l)))
 
-pub none_fails : (p : ℕ → Bool) (n : ℕ) → Below p n → first_of p n ≡ Nothing
+pub none_fails : (p : ℕ → Bool) (n : ℕ) → Below p n → first_of p n ≡ None
 none_fails p n h = sym (first-none p n n (omega arith) h)
 
-undeclared_none : (p : ℕ → Bool) (v : ℕ) → first_undeclared (lowest p v) v ≡ Nothing → Below p v
+undeclared_none : (p : ℕ → Bool) (v : ℕ) → first_undeclared (lowest p v) v ≡ None → Below p v
 unfolding first_undeclared
 undeclared_none p v e = go (ltb (lowest p v) v) refl e
   where
-    go : (b : Bool) → ltb (lowest p v) v ≡ b → pick b (At 0 (lowest p v)) Nothing ≡ Nothing → Below p v
+    go : (b : Bool) → ltb (lowest p v) v ≡ b → pick b (At 0 (lowest p v)) None ≡ None → Below p v
     go true q e = let z : ◌≡◌ {A = ℕ} 0 1 = cc in absurd (omega arith)
     go false q e = λ k h. lowest_below p v k (omega (arith, ltb-false (lowest p v) v q))
 
-none_undeclared : (p : ℕ → Bool) (v : ℕ) → Below p v → first_undeclared (lowest p v) v ≡ Nothing
+none_undeclared : (p : ℕ → Bool) (v : ℕ) → Below p v → first_undeclared (lowest p v) v ≡ None
 unfolding first_undeclared
 none_undeclared p v h = rw (lowest_none p v h, le-ltb v v (omega arith))
 
-none_first : (t : ℕ → Found) (m f : ℕ) → ((k : ℕ) → f ≤ k → k < f + m → t k ≡ Nothing) → first_in t m f ≡ Nothing
+none_first : (t : ℕ → Option Found) (m f : ℕ) → ((k : ℕ) → f ≤ k → k < f + m → t k ≡ None) → first_in t m f ≡ None
 unfolding first_in or_else
 none_first t zero f h = refl
 none_first t (suc m) f h = rw (h f (omega arith) (omega arith)) (none_first t m (suc f) (λ k p q. h k (omega arith) (omega arith)))
 
 -- ---- what each of questions 7 to 14 finds in a function
 module _ (s : List ℕ) (f : ℕ) where
-  abbrev pub Finds : ℕ → Found
-  Finds q = get_or (answers s f (part_of s f) (count_of s f)) (q - 7) Nothing
+  abbrev pub Finds : ℕ → Option Found
+  Finds q = get_or (answers s f (part_of s f) (count_of s f)) (q - 7) None
 
-  in_part_lem : (q : ℕ) → in_part q s f ≡ Nothing → Finds q ≡ Nothing
+  in_part_lem : (q : ℕ) → in_part q s f ≡ None → Finds q ≡ None
   unfolding in_part
   in_part_lem q e = shift_none (origin_of q s f) (Finds q) e
 
-  part_in : (q : ℕ) → Finds q ≡ Nothing → in_part q s f ≡ Nothing
+  part_in : (q : ℕ) → Finds q ≡ None → in_part q s f ≡ None
   unfolding in_part
   part_in q e = none_shift (origin_of q s f) (Finds q) e
 
-pub asked_none : (s : List ℕ) (q : ℕ) → first_in (in_part q s) (functions s) 0 ≡ Nothing → (f : ℕ) → f < functions s → Finds s f q ≡ Nothing
+pub asked_none : (s : List ℕ) (q : ℕ) → first_in (in_part q s) (functions s) 0 ≡ None → (f : ℕ) → f < functions s → Finds s f q ≡ None
 asked_none s q e f h = in_part_lem s f q (none_in (in_part q s) (functions s) 0 e f (omega arith) (omega arith))
 
-pub none_asked : (s : List ℕ) (q : ℕ) → ((f : ℕ) → f < functions s → Finds s f q ≡ Nothing) → first_in (in_part q s) (functions s) 0 ≡ Nothing
+pub none_asked : (s : List ℕ) (q : ℕ) → ((f : ℕ) → f < functions s → Finds s f q ≡ None) → first_in (in_part q s) (functions s) 0 ≡ None
 none_asked s q h = none_first (in_part q s) (functions s) 0 (λ f p r. part_in s f q (h f (omega arith)))
 
 -- ---- the check accepts exactly where every record passes every question
 
 -- one after the other of the questions from q on
-part_asked : (s : List ℕ) (m q : ℕ) → first_refusal (part_questions s m q) ≡ accepted → (k : ℕ) → q ≤ k → k < q + m → first_in (in_part k s) (functions s) 0 ≡ Nothing
+part_asked : (s : List ℕ) (m q : ℕ) → first_refusal (part_questions s m q) ≡ accepted → (k : ℕ) → q ≤ k → k < q + m → first_in (in_part k s) (functions s) 0 ≡ None
 unfolding part_questions
 part_asked s zero q e k p r = absurd (omega arith)
 part_asked s (suc m) q e k p r = go (eqb k q) refl (put_first q _ (part_questions s m (suc q)) e) (λ z. part_asked s m (suc q) z k)
   where
-    go : (b : Bool) → eqb k q ≡ b → (first_in (in_part q s) (functions s) 0 ≡ Nothing) × (first_refusal (part_questions s m (suc q)) ≡ accepted)
-        → (first_refusal (part_questions s m (suc q)) ≡ accepted → suc q ≤ k → k < suc q + m → first_in (in_part k s) (functions s) 0 ≡ Nothing) → first_in (in_part k s) (functions s) 0 ≡ Nothing
+    go : (b : Bool) → eqb k q ≡ b → (first_in (in_part q s) (functions s) 0 ≡ None) × (first_refusal (part_questions s m (suc q)) ≡ accepted)
+        → (first_refusal (part_questions s m (suc q)) ≡ accepted → suc q ≤ k → k < suc q + m → first_in (in_part k s) (functions s) 0 ≡ None) → first_in (in_part k s) (functions s) 0 ≡ None
     go true z a rest = rw (eqb-true k q z) a.0
     go false z a rest = let n : k ≡ q → ⊥ = eqb-false k q z in rest a.1 (omega arith) (omega arith)
 
-pub asked_part : (s : List ℕ) (m q : ℕ) → ((k : ℕ) → q ≤ k → k < q + m → first_in (in_part k s) (functions s) 0 ≡ Nothing) → first_refusal (part_questions s m q) ≡ accepted
+pub asked_part : (s : List ℕ) (m q : ℕ) → ((k : ℕ) → q ≤ k → k < q + m → first_in (in_part k s) (functions s) 0 ≡ None) → first_refusal (part_questions s m q) ≡ accepted
 unfolding part_questions first_refusal
 asked_part s zero q h = refl
 asked_part s (suc m) q h = put_next q _ (part_questions s m (suc q)) (h q (omega arith) (omega arith)) (asked_part s m (suc q) (λ k p r. h k (omega arith) (omega arith)))
@@ -142,7 +142,7 @@ accepted_is s e =
     let q4 = put_first 4 _ _ q3.1 in
     let q5 = put_first 5 _ _ q4.1 in
     let q6 = put_first 6 _ _ q5.1 in
-    let rest : (k : ℕ) → 7 ≤ k → k < 15 → (f : ℕ) → f < functions s → Finds s f k ≡ Nothing = λ k p r. asked_none s k (part_asked s 8 7 q6.1 k p r) in
+    let rest : (k : ℕ) → 7 ≤ k → k < 15 → (f : ℕ) → f < functions s → Finds s f k ≡ None = λ k p r. asked_none s k (part_asked s 8 7 q6.1 k p r) in
     record {
       one = unless_none _ 0 q1.0;
       two = unless_none _ 0 q2.0;
@@ -191,7 +191,7 @@ is_accepted s h =
     (put_next 5 _ _ (none_unless _ 0 h.five)
     (put_next 6 _ _ (none_unless _ 1 h.six)
     (asked_part s 8 7
-    (seven_to_fourteen (λ k. first_in (in_part k s) (functions s) 0 ≡ Nothing)
+    (seven_to_fourteen (λ k. first_in (in_part k s) (functions s) 0 ≡ None)
     (none_asked s 7 (λ f l. pass_all (node_ok s f (t f)) (n f) (λ i. h.seven f i l)))
     (none_asked s 8 (λ f l. pass_all (size_ok (t f) (n f)) (n f) (λ i. h.eight f i l)))
     (none_asked s 9 (λ f l. none_fails (misplaced (t f) (n f)) (n f) (λ i. h.nine f i l)))

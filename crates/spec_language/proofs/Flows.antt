@@ -1,4 +1,5 @@
 -- Laws L1 to L4 of the flow, for sets of any width.
+use Rattle.std.specs.Prelude.{Some, Option, None}
 use mathlib.Core.Path.{◌≡◌, refl}
 use mathlib.Core.Bool.{Bool, true, false, ◌&&◌, not}
 use mathlib.Core.List.{List, [], ◌∷◌, Memᴰ}
@@ -10,19 +11,18 @@ use lib.Dec.{eqb}
 use borrow.Author.Tests.{eqb-true, not-true}
 use Rattle.varset.specs.Lowest.{pick}
 use Rattle.varset.specs.Sets.{Set, none, with, without, both, either, less, Sub}
-use Rattle.records.specs.Search.{or_else}
+use Rattle.records.specs.Search.{At, or_else}
 use Rattle.records.specs.declared.Found.{Found}
-use Rattle.records.specs.declared.Found.TheVariants.{At, Nothing}
 use Rattle.records.proofs.Bools.{both_mono, either_mono, and_left, and_right, and_both, or_false_left, or_false_right, or_more, by, or_cases, clash}
 use Rattle.spec_language.specs.Statements.{Read, read, Statement, Nop, Seq, Assign, Decl, If, While, Return, Assert, Expr}
 use Rattle.spec_language.specs.Flow.{declares, leaves, missing, lacks}
 
 -- every variable read has a value
 abbrev pub Reads : List Read → Set → Type 0
-Reads rs d = missing rs d ≡ Nothing
+Reads rs d = missing rs d ≡ None
 
 abbrev pub Ok : Statement → Set → Type 0
-Ok s d = lacks s d ≡ Nothing
+Ok s d = lacks s d ≡ None
 
 -- a read of x at node n is one of rs
 abbrev pub Listed : ℕ → ℕ → List Read → Type 0
@@ -30,22 +30,22 @@ Listed n x rs = Memᴰ (read n x) rs
 
 -- ---- what Reads and Ok say of the parts
 
-none_or : (a b : Found) → or_else a b ≡ Nothing → (a ≡ Nothing) × (b ≡ Nothing)
+none_or : (a b : Option Found) → or_else a b ≡ None → (a ≡ None) × (b ≡ None)
 unfolding or_else
-none_or (At k x) b e = let z : ◌≡◌ {A = ℕ} 0 1 = cc in absurd (omega arith)
-none_or Nothing b e = (refl, e)
+none_or (Some found) b e = let z : ◌≡◌ {A = ℕ} 0 1 = cc in absurd (omega arith)
+none_or None b e = (refl, e)
 
-or-none : (a b : Found) → (a ≡ Nothing) × (b ≡ Nothing) → or_else a b ≡ Nothing
+or-none : (a b : Option Found) → (a ≡ None) × (b ≡ None) → or_else a b ≡ None
 unfolding or_else
 or-none a b e = rw (e.0, e.1)
 
-none_three : (a b c : Found) → or_else a (or_else b c) ≡ Nothing → (a ≡ Nothing) × (b ≡ Nothing) × (c ≡ Nothing)
+none_three : (a b c : Option Found) → or_else a (or_else b c) ≡ None → (a ≡ None) × (b ≡ None) × (c ≡ None)
 none_three a b c e =
     let p = none_or a (or_else b c) e in
     let q = none_or b c p.1 in
     (p.0, q.0, q.1)
 
-none_pick : (b : Bool) (a : Found) (n : ℕ) → pick b a (At n 0) ≡ Nothing → (b ≡ true) × (a ≡ Nothing)
+none_pick : (b : Bool) (a : Option Found) (n : ℕ) → pick b a (At n 0) ≡ None → (b ≡ true) × (a ≡ None)
 none_pick true a n e = (refl, e)
 none_pick false a n e = let z : ◌≡◌ {A = ℕ} 0 1 = cc in absurd (omega arith)
 

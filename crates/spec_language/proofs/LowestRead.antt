@@ -1,4 +1,5 @@
 -- What question 13 finds in a statement is the lowest read of a variable without a value.
+use Rattle.std.specs.Prelude.{Some, Option, None}
 use mathlib.Core.Path.{◌≡◌, refl}
 use mathlib.Core.Logic.{◌⊎◌, inl, inr, ⊎_elim}
 use mathlib.Core.Bool.{Bool, true, false}
@@ -12,10 +13,9 @@ use lib.Dec.{eqb}
 use Rattle.varset.specs.Lowest.{pick}
 use Rattle.varset.specs.Sets.{Set, without}
 use Rattle.records.specs.Fields.{kind_at, a_at, b_at, size_at}
-use Rattle.records.specs.Search.{or_else}
+use Rattle.records.specs.Search.{At, or_else}
 use Rattle.records.specs.Children.{arities, arity_of}
 use Rattle.records.specs.declared.Found.{Found}
-use Rattle.records.specs.declared.Found.TheVariants.{At, Nothing}
 use Rattle.records.proofs.Bools.{clash}
 use Rattle.spec_language.specs.Statements.{Read, read, reads_from, reads_of, prior, last, Statement, Nop, Seq, Assign, Decl, If, While, Return, Assert, Expr, statement_at}
 use Rattle.spec_language.specs.Flow.{leaves, missing, lacks}
@@ -46,30 +46,30 @@ Lacks (Assert e) d k = Empty e d k
 Lacks (Expr e) d k = Empty e d k
 
 -- what is found is the lowest of the nodes that fail, and nothing is found where none does
-abbrev pub Lowest : (ℕ → Type 0) → Found → Type 0
-Lowest P (At k x) = P k × ((j : ℕ) → P j → k ≤ j)
-Lowest P Nothing = (j : ℕ) → P j → ⊥
+abbrev pub Lowest : (ℕ → Type 0) → Option Found → Type 0
+Lowest P (Some found) = P found.place × ((j : ℕ) → P j → found.place ≤ j)
+Lowest P None = (j : ℕ) → P j → ⊥
 
 -- the same, where the nodes that fail lie from lo to hi
-record Search (lo hi : ℕ) (P : ℕ → Type 0) (a : Found) : Type 0 where
+record Search (lo hi : ℕ) (P : ℕ → Type 0) (a : Option Found) : Type 0 where
   lowest : Lowest P a
   inside : (j : ℕ) → P j → (lo ≤ j) × (j ≤ hi)
 
-widen : {lo hi : ℕ} {P : ℕ → Type 0} {a : Found} (lo' hi' : ℕ) → lo' ≤ lo → hi ≤ hi' → Search lo hi P a → Search lo' hi' P a
+widen : {lo hi : ℕ} {P : ℕ → Type 0} {a : Option Found} (lo' hi' : ℕ) → lo' ≤ lo → hi ≤ hi' → Search lo hi P a → Search lo' hi' P a
 widen lo' hi' l h s = record { lowest = s.lowest; inside = λ j p. (le_trans l (s.inside j p).0, le_trans (s.inside j p).1 h) }
 
-lowest_same : (P Q : ℕ → Type 0) (a : Found) → ((j : ℕ) → P j → Q j) → ((j : ℕ) → Q j → P j) → Lowest P a → Lowest Q a
-lowest_same P Q (At k x) f g l = (f k l.0, λ j q. l.1 j (g j q))
-lowest_same P Q Nothing f g l = λ j q. l j (g j q)
+lowest_same : (P Q : ℕ → Type 0) (a : Option Found) → ((j : ℕ) → P j → Q j) → ((j : ℕ) → Q j → P j) → Lowest P a → Lowest Q a
+lowest_same P Q (Some found) f g l = (f found.place l.0, λ j q. l.1 j (g j q))
+lowest_same P Q None f g l = λ j q. l j (g j q)
 
 -- of two searches, the second of which looks from mid on, where the first stops
-join : {lo mid hi : ℕ} {P Q : ℕ → Type 0} (a b : Found) → lo ≤ mid → mid ≤ hi → Search lo mid P a → Search mid hi Q b → Search lo hi (λ j. P j ⊎ Q j) (or_else a b)
+join : {lo mid hi : ℕ} {P Q : ℕ → Type 0} (a b : Option Found) → lo ≤ mid → mid ≤ hi → Search lo mid P a → Search mid hi Q b → Search lo hi (λ j. P j ⊎ Q j) (or_else a b)
 unfolding or_else
 join {lo} {mid} {hi} {P} {Q} a b l h s t = record { lowest = go a s.lowest; inside = λ j. ⊎_elim (λ p. ((s.inside j p).0, le_trans (s.inside j p).1 h)) (λ q. (le_trans l (t.inside j q).0, (t.inside j q).1)) }
   where
-    go : (a : Found) → Lowest P a → Lowest (λ j. P j ⊎ Q j) (or_else a b)
-    go (At k x) m = (inl m.0, λ j. ⊎_elim (m.1 j) (λ q. le_trans (s.inside k m.0).1 (t.inside j q).0))
-    go Nothing m = lowest_same Q (λ j. P j ⊎ Q j) b (λ j q. inr q) (λ j. ⊎_elim (λ p. absurd (m j p)) (λ q. q)) t.lowest
+    go : (a : Option Found) → Lowest P a → Lowest (λ j. P j ⊎ Q j) (or_else a b)
+    go (Some found) m = (inl m.0, λ j. ⊎_elim (m.1 j) (λ q. le_trans (s.inside found.place m.0).1 (t.inside j q).0))
+    go None m = lowest_same Q (λ j. P j ⊎ Q j) b (λ j q. inr q) (λ j. ⊎_elim (λ p. absurd (m j p)) (λ q. q)) t.lowest
 
 -- ---- the reads of an expression
 
@@ -119,7 +119,7 @@ prior_low t c = (omega arith, omega arith)
 
 module _ (t : List ℕ) (n : ℕ) (ok : Sizes t n) where
   -- a search of the subtree of node i
-  abbrev Tree : ℕ → (ℕ → Type 0) → Found → Type 0
+  abbrev Tree : ℕ → (ℕ → Type 0) → Option Found → Type 0
   Tree i P a = Search (i + 1 - size_at t i) i P a
 
   abbrev Finding : ℕ → Type 0
@@ -161,16 +161,16 @@ module _ (t : List ℕ) (n : ℕ) (ok : Sizes t n) where
       top : {c : ℕ} → Child t i c → c ≤ i
       top {c} w = let z = w.below in omega arith
 
-      left : {c : ℕ} {P : ℕ → Type 0} {a : Found} → Child t i c → Tree c P a → Search (i + 1 - size_at t i) c P a
+      left : {c : ℕ} {P : ℕ → Type 0} {a : Option Found} → Child t i c → Tree c P a → Search (i + 1 - size_at t i) c P a
       left {c} w s = widen (i + 1 - size_at t i) c (low w) (le_refl c) s
 
-      middle : {c : ℕ} {P : ℕ → Type 0} {a : Found} → Tree c P a → Search (prior t c) c P a
+      middle : {c : ℕ} {P : ℕ → Type 0} {a : Option Found} → Tree c P a → Search (prior t c) c P a
       middle {c} s = widen (prior t c) c (prior_low t c).1 (le_refl c) s
 
-      right : {c : ℕ} {P : ℕ → Type 0} {a : Found} → Child t i c → Tree c P a → Search (prior t c) i P a
+      right : {c : ℕ} {P : ℕ → Type 0} {a : Option Found} → Child t i c → Tree c P a → Search (prior t c) i P a
       right {c} w s = widen (prior t c) i (prior_low t c).1 (top w) s
 
-      all : {c : ℕ} {P : ℕ → Type 0} {a : Found} → Child t i c → Tree c P a → Tree i P a
+      all : {c : ℕ} {P : ℕ → Type 0} {a : Option Found} → Child t i c → Tree c P a → Tree i P a
       all w s = widen (i + 1 - size_at t i) i (low w) (top w) s
 
   search : (i : ℕ) → i < n → Finding i
@@ -193,5 +193,5 @@ module _ (t : List ℕ) (n : ℕ) (ok : Sizes t n) where
     lacking_lowest k x e = let l : Lowest (Lacks (statement_at t i) d) (At k x) = rw e at lacking_found in l.1
 
     -- where nothing is found none lacks its value
-    pub lacking_none : lacks (statement_at t i) d ≡ Nothing → (j : ℕ) → Lacks (statement_at t i) d j → ⊥
-    lacking_none e = let l : Lowest (Lacks (statement_at t i) d) Nothing = rw e at lacking_found in l
+    pub lacking_none : lacks (statement_at t i) d ≡ None → (j : ℕ) → Lacks (statement_at t i) d j → ⊥
+    lacking_none e = let l : Lowest (Lacks (statement_at t i) d) None = rw e at lacking_found in l

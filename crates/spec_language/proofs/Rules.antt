@@ -1,4 +1,5 @@
 -- Questions 13 and 14 at a node of each kind, in the paper's words.
+use Rattle.std.specs.Prelude.{None}
 use mathlib.Core.Path.{◌≡◌, refl, ap}
 use mathlib.Core.Bool.{Bool, true, false, ◌||◌, ◌&&◌}
 use mathlib.Core.List.{List, [], ◌∷◌}
@@ -8,7 +9,6 @@ use Rattle.varset.specs.Sets.{Set, none, with, without, both, either, less, belo
 use Rattle.records.specs.Format.{most_variables}
 use Rattle.records.specs.Fields.{kind_at, b_at}
 use Rattle.records.specs.Search.{or_else}
-use Rattle.records.specs.declared.Found.TheVariants.{Nothing}
 use Rattle.records.proofs.Bools.{clash}
 use Rattle.spec_language.specs.Sorts.{one_of}
 use Rattle.spec_language.specs.KindLists.{is_statement}
@@ -94,7 +94,7 @@ module _ (t : List ℕ) (i : ℕ) (d : Set) where
       go (inr (inr e)) = ap (λ (s : Statement). lacks s d) (statement_expr t i e p)
 
   -- the rest read nothing
-  pub lacks_rest : is_statement (kind_at t i) ≡ false → lacks (statement_at t i) d ≡ Nothing
+  pub lacks_rest : is_statement (kind_at t i) ≡ false → lacks (statement_at t i) d ≡ None
   unfolding lacks
   lacks_rest h = ap (λ (s : Statement). lacks s d) (statement_rest t i h)
 

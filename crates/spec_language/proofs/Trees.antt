@@ -1,4 +1,5 @@
 -- The statement at a node, level by level: each kind's, from the statements and reads at its children. No shape is asked for.
+use Rattle.std.specs.Prelude.{Some, Option, None}
 use mathlib.Core.Path.{◌≡◌, refl}
 use mathlib.Core.Bool.{Bool, true, false}
 use mathlib.Core.List.{List, ◌∷◌}
@@ -11,9 +12,8 @@ use lib.ListN.{get_or}
 use Rattle.varset.specs.Lowest.{pick}
 use Rattle.varset.specs.Sets.{Set, without}
 use Rattle.records.specs.Fields.{kind_at, b_at, size_at}
-use Rattle.records.specs.Search.{or_else}
+use Rattle.records.specs.Search.{At, or_else}
 use Rattle.records.specs.declared.Found.{Found}
-use Rattle.records.specs.declared.Found.TheVariants.{At, Nothing}
 use Rattle.records.proofs.Bools.{clash}
 use Rattle.records.proofs.EntryTables.{each_at}
 use Rattle.spec_language.specs.KindLists.{is_statement}
@@ -159,18 +159,18 @@ module _ (t : List ℕ) (i : ℕ) where
   statement_nop e = statement_rest (rw e)
 
 -- a search finds nothing past node i, and names no item
-abbrev Low : ℕ → Found → Type 0
-Low i (At k x) = (k ≤ i) × (x ≡ 0)
-Low i Nothing = Unit {0}
+abbrev Low : ℕ → Option Found → Type 0
+Low i (Some found) = (found.place ≤ i) × (found.item ≡ 0)
+Low i None = Unit {0}
 
-low_or : (i : ℕ) (a b : Found) → Low i a → Low i b → Low i (or_else a b)
+low_or : (i : ℕ) (a b : Option Found) → Low i a → Low i b → Low i (or_else a b)
 unfolding or_else
-low_or i (At k x) b p q = p
-low_or i Nothing b p q = q
+low_or i (Some found) b p q = p
+low_or i None b p q = q
 
-low_on : (j i : ℕ) (a : Found) → j ≤ i → Low j a → Low i a
-low_on j i (At k x) l p = (le_trans p.0 l, p.1)
-low_on j i Nothing l p = tt
+low_on : (j i : ℕ) (a : Option Found) → j ≤ i → Low j a → Low i a
+low_on j i (Some found) l p = (le_trans p.0 l, p.1)
+low_on j i None l p = tt
 
 low_missing : (t : List ℕ) (i m j : ℕ) (d : Set) → j + m ≤ i + 1 → Low i (missing (reads_from t m j) d)
 unfolding reads_from missing
@@ -224,7 +224,7 @@ module _ (t : List ℕ) (n : ℕ) (h : Known t n) where
   low_in (suc f) zero d p = tt
   low_in (suc f) (suc i) d p = low_grow (statement_in t f) i p (λ j l d. low_on j (suc i) (lacks (statement_in t f j) d) (omega arith) (low_in f j d (omega arith))) d
 
-  low_at : (i : ℕ) (d : Set) (a : Found) → i < n → lacks (statement_at t i) d ≡ a → Low i a
+  low_at : (i : ℕ) (d : Set) (a : Option Found) → i < n → lacks (statement_at t i) d ≡ a → Low i a
   unfolding statement_at
   low_at i d a p e = rw e at (low_in i i d p)
 

@@ -1,4 +1,6 @@
 -- Question by question, the place that a refusal names is the lowest failing record.
+use Rattle.std.specs.Prelude.{Option, None}
+use Rattle.std.specs.Prelude as prelude
 use mathlib.Core.Path.{◌≡◌, refl, sym}
 use mathlib.Core.Logic.{◌↔◌}
 use mathlib.Core.Bool.{Bool, true, false, not}
@@ -12,11 +14,10 @@ use Rattle.varset.specs.Lowest.{pick, lowest}
 use Rattle.varset.specs.Sets.{below}
 use Rattle.records.specs.Fields.{functions, params_of, vars_of, count_of}
 use Rattle.records.specs.Parts.{start_of, part_of, Laid}
-use Rattle.records.specs.Search.{first_of, shift, unless}
+use Rattle.records.specs.Search.{At, first_of, shift, unless}
 use Rattle.records.specs.declared.Found.{Found}
-use Rattle.records.specs.declared.Found.TheVariants.{At, Nothing}
 use Rattle.records.proofs.Bools.{by, clash}
-use Rattle.records.proofs.Loops.{Below, lowest_below, lowest_passes, found_below, none_found, first_lowest}
+use Rattle.records.proofs.Loops.{Below, one_place, one_item, lowest_below, lowest_passes, found_below, none_found, first_lowest}
 use Rattle.spec_language.specs.Statements.{statement_at}
 use Rattle.spec_language.specs.Flow.{returns}
 use Rattle.spec_language.specs.Records.{function_ok}
@@ -47,13 +48,13 @@ Fails s test f i = (i < count_of s f) × (test f i ≡ true)
 first_places : (p : ℕ → Bool) (n : ℕ) → Lowest (λ i. (i < n) × (p i ≡ true)) (first_of p n)
 first_places p n = go (first_of p n) refl
   where
-    go : (a : Found) → first_of p n ≡ a → Lowest (λ i. (i < n) × (p i ≡ true)) a
-    go (At k x) e = let l = first_lowest p n k x e in ((found_below p n k x (sym e), l.0), λ j h. near j h (dec_lt j k))
+    go : (a : Option Found) → first_of p n ≡ a → Lowest (λ i. (i < n) × (p i ≡ true)) a
+    go (prelude.Some found) e = let l = first_lowest p n found.place found.item e in ((found_below p n found.place found.item (sym e), l.0), λ j h. near j h (dec_lt j found.place))
       where
-        near : (j : ℕ) → (j < n) × (p j ≡ true) → Dec (j < k) → k ≤ j
-        near j h (yes q) = clash (p j) h.1 ((first_lowest p n k x e).1 j q)
+        near : (j : ℕ) → (j < n) × (p j ≡ true) → Dec (j < found.place) → found.place ≤ j
+        near j h (yes q) = clash (p j) h.1 ((first_lowest p n found.place found.item e).1 j q)
         near j h (no q) = omega arith
-    go Nothing e = λ j h. clash (p j) h.1 (none_found p n e j h.0)
+    go None e = λ j h. clash (p j) h.1 (none_found p n e j h.0)
 
 -- questions 7, 8, 9, 11 and 12 name the lowest node that fails their test
 module _ (s : List ℕ) (p x : ℕ) where
@@ -86,7 +87,7 @@ abbrev pub LacksIn : List ℕ → ℕ → ℕ → Type 0
 LacksIn s f k = Lacks (statement_at (part_of s f) (count_of s f - 1)) (below (params_of s f)) k
 
 -- question 13 in a function of a file that passes the questions before it
-module _ (s : List ℕ) (g : Laid s) (h : (q : ℕ) → 7 ≤ q → q < 13 → (f : ℕ) → f < functions s → Finds s f q ≡ Nothing) (f : ℕ) (l : f < functions s) where
+module _ (s : List ℕ) (g : Laid s) (h : (q : ℕ) → 7 ≤ q → q < 13 → (f : ℕ) → f < functions s → Finds s f q ≡ None) (f : ℕ) (l : f < functions s) where
   abbrev t : List ℕ
   t = part_of s f
 
@@ -120,19 +121,19 @@ module _ (s : List ℕ) (g : Laid s) (h : (q : ℕ) → 7 ≤ q → q < 13 → (
   unfolding answers
   finds_13 k = (λ e. rw e at found_13, λ w. go (Finds s f 13) refl found_13 w)
     where
-      go : (a : Found) → Finds s f 13 ≡ a → Lowest (LacksIn s f) a → LacksIn s f k × ((j : ℕ) → LacksIn s f j → k ≤ j) → a ≡ At k 0
-      go (At i y) e b w =
-          let z : i ≡ k = omega (arith, b.1 k w.0, w.1 i b.0) in
-          let o : y ≡ 0 = lacking_item t n (known s f t n g l seven eight) (n - 1) i y (below (params_of s f)) body e in
+      go : (a : Option Found) → Finds s f 13 ≡ a → Lowest (LacksIn s f) a → LacksIn s f k × ((j : ℕ) → LacksIn s f j → k ≤ j) → a ≡ At k 0
+      go (prelude.Some found) e b w =
+          let z : found.place ≡ k = omega (arith, b.1 k w.0, w.1 found.place b.0) in
+          let o : found.item ≡ 0 = lacking_item t n (known s f t n g l seven eight) (n - 1) found.place found.item (below (params_of s f)) body e in
           rw (z, o)
-      go Nothing e b w = absurd (b k w.0)
+      go None e b w = absurd (b k w.0)
 
 -- question 13 names the lowest node of the file that reads a variable without a value
 pub place_13 : (s : List ℕ) (p x : ℕ) → check_of s ≡ refused 13 p x → LowestRecord s (start_of s) (LacksIn s) p
 unfolding origin_of
 place_13 s p x e =
     let r = refused_is s 13 p x (omega arith) e in
-    let h : (q : ℕ) → 7 ≤ q → q < 13 → (f : ℕ) → f < functions s → Finds s f q ≡ Nothing = λ q a b. asked_none s q (r.asks.2 q a b) in
+    let h : (q : ℕ) → 7 ≤ q → q < 13 → (f : ℕ) → f < functions s → Finds s f q ≡ None = λ q a b. asked_none s q (r.asks.2 q a b) in
     lowest_node s 13 p x (LacksIn s) (λ f. refl) (omega arith) (λ f i l. lacks_below s r.laid h f l i) (found_13 s r.laid h) e
 
 -- ---- the questions whose place is a function's record
@@ -163,11 +164,11 @@ module _ (u : ℕ → Bool) (v : ℕ) where
   unfolding first_undeclared
   undeclared_item k x e = go (ltb (lowest u v) v) refl e
     where
-      go : (b : Bool) → ltb (lowest u v) v ≡ b → pick b (At 0 (lowest u v)) Nothing ≡ At k x → (k ≡ 0) × (x < v) × (u x ≡ true) × Below u x
+      go : (b : Bool) → ltb (lowest u v) v ≡ b → pick b (At 0 (lowest u v)) None ≡ At k x → (k ≡ 0) × (x < v) × (u x ≡ true) × Below u x
       go true q e =
           let m = ltb-true (lowest u v) v q in
-          let z : x ≡ lowest u v = cc in
-          let y : k ≡ 0 = cc in
+          let z : x ≡ lowest u v = sym (one_item e) in
+          let y : k ≡ 0 = sym (one_place e) in
           rw z (y, m, lowest_passes u v m, lowest_below u v)
       go false q e = let z : ◌≡◌ {A = ℕ} 0 1 = cc in absurd (omega arith)
 
@@ -204,8 +205,8 @@ pub place_4 : (s : List ℕ) (p x : ℕ) → check_of s ≡ refused 4 p x → Lo
 unfolding shift
 place_4 s p x e = go (first_of (λ f. not (function_ok s f)) (functions s)) (first_places (λ f. not (function_ok s f)) (functions s)) (refused_four s p x e)
   where
-    go : (a : Found) → Lowest (λ f. (f < functions s) × (not (function_ok s f) ≡ true)) a → shift 1 a ≡ At p x → LowestRecord s (λ f. 1 + f) (Own (λ f. function_ok s f ≡ false)) p
-    go (At k y) b e =
-        let z : p ≡ 1 + k = cc in
-        record { function = k; node = 0; known = b.0.0; fails = (refl, not-true (function_ok s k) b.0.1); place = omega arith; lowest = λ f i l w. omega (arith, b.1 f (l, rw w.1)) }
-    go Nothing b e = let z : ◌≡◌ {A = ℕ} 0 1 = cc in absurd (omega arith)
+    go : (a : Option Found) → Lowest (λ f. (f < functions s) × (not (function_ok s f) ≡ true)) a → shift 1 a ≡ At p x → LowestRecord s (λ f. 1 + f) (Own (λ f. function_ok s f ≡ false)) p
+    go (prelude.Some found) b e =
+        let z : p ≡ 1 + found.place = sym (one_place e) in
+        record { function = found.place; node = 0; known = b.0.0; fails = (refl, not-true (function_ok s found.place) b.0.1); place = omega arith; lowest = λ f i l w. omega (arith, b.1 f (l, rw w.1)) }
+    go None b e = let z : ◌≡◌ {A = ℕ} 0 1 = cc in absurd (omega arith)

@@ -1,11 +1,10 @@
 -- Question 13: which variables have a value. Question 14: what returns.
-use Rattle.std.specs.Prelude.{Bool, true, false, ◌||◌, ◌&&◌, List, [], ◌∷◌}
+use Rattle.std.specs.Prelude.{Option, None, Bool, true, false, ◌||◌, ◌&&◌, List, [], ◌∷◌}
 use Rattle.varset.specs.Lowest.{pick}
 use Rattle.varset.specs.Sets.{Set, none, with, without, both, either, less, below}
 use Rattle.records.specs.Format.{most_variables}
 use Rattle.records.specs.declared.Found.{Found}
-use Rattle.records.specs.declared.Found.TheVariants.{At, Nothing}
-use Rattle.records.specs.Search.{or_else}
+use Rattle.records.specs.Search.{At, or_else}
 use Rattle.spec_language.specs.Statements.{Read, read, Statement, Nop, Seq, Assign, Decl, If, While, Return, Assert, Expr}
 
 -- the variables declared in a statement; by kind
@@ -33,13 +32,13 @@ leaves (Assert e) d = d
 leaves (Expr e) d = d
 
 -- the first read of a variable that is not in d
-unfoldable pub missing : List Read → Set → Found
-missing [] d = Nothing
+unfoldable pub missing : List Read → Set → Option Found
+missing [] d = None
 missing (read n x ∷ rs) d = pick (d x) (missing rs d) (At n 0)
 
 -- the first node of a statement that reads a variable without a value; by kind
-unfoldable pub lacks : Statement → Set → Found
-lacks Nop d = Nothing
+unfoldable pub lacks : Statement → Set → Option Found
+lacks Nop d = None
 lacks (Seq s t) d = or_else (lacks s d) (lacks t (leaves s d))
 lacks (Assign x e) d = missing e d
 lacks (Decl x s) d = lacks s (without d x)

@@ -1,12 +1,11 @@
 -- Questions 7 to 14, of the part t of function f of the file s, which has n nodes.
-use Rattle.std.specs.Prelude.{Bool, false, not, ◌&&◌, ◌||◌, List, [], ◌∷◌, ℕ, zero, suc, ◌+◌, ◌-◌, eqb, leb, ltb, get_or, length}
+use Rattle.std.specs.Prelude.{Option, None, Bool, false, not, ◌&&◌, ◌||◌, List, [], ◌∷◌, ℕ, zero, suc, ◌+◌, ◌-◌, eqb, leb, ltb, get_or, length}
 use Rattle.varset.specs.Lowest.{pick, lowest}
 use Rattle.varset.specs.Sets.{below}
 use Rattle.records.specs.Fields.{mark_at, functions, params_of, vars_of, kind_at, a_at, b_at, size_at}
-use Rattle.records.specs.Search.{first_of, unless}
+use Rattle.records.specs.Search.{At, first_of, unless}
 use Rattle.records.specs.Children.{children}
 use Rattle.records.specs.declared.Found.{Found}
-use Rattle.records.specs.declared.Found.TheVariants.{At, Nothing}
 use Rattle.spec_language.specs.Sorts.{is_expression, wrong_sort}
 use Rattle.spec_language.specs.Statements.{statement_at}
 use Rattle.spec_language.specs.Flow.{lacks, returns}
@@ -60,8 +59,8 @@ unfoldable pub undeclared : List ℕ → ℕ → List ℕ → ℕ → ℕ → Bo
 undeclared s f t n x = leb (params_of s f) x && not (eqb (decl_count t n x) 1)
 
 -- the lowest such variable is the item
-unfoldable pub first_undeclared : ℕ → ℕ → Found
-first_undeclared x v = pick (ltb x v) (At 0 x) Nothing
+unfoldable pub first_undeclared : ℕ → ℕ → Option Found
+first_undeclared x v = pick (ltb x v) (At 0 x) None
 
 -- 11: is a non-parameter used or assigned outside its decl?
 unfoldable pub outside : List ℕ → ℕ → List ℕ → ℕ → ℕ → Bool
@@ -72,7 +71,7 @@ unfoldable pub mistyped : List ℕ → ℕ → List ℕ → ℕ → ℕ → Bool
 mistyped s f t n i = not (agree (want_at s f t n i) (type_at s f t n) (children t i))
 
 -- the answers to questions 7 to 14, with nodes counted from the part's first and place 0 for the function
-unfoldable pub answers : List ℕ → ℕ → List ℕ → ℕ → List Found
+unfoldable pub answers : List ℕ → ℕ → List ℕ → ℕ → List (Option Found)
 answers s f t n =
     first_of (λ i. not (node_ok s f t i)) n
     ∷ first_of (λ i. not (size_ok t n i)) n

@@ -1,4 +1,5 @@
 -- The program of an accepted file is accepted.
+use Rattle.std.specs.Prelude.{None}
 use mathlib.Core.Path.{◌≡◌, refl}
 use mathlib.Core.Bool.{true, false≢true}
 use mathlib.Core.List.{List, [], ◌∷◌}
@@ -14,7 +15,6 @@ use Rattle.varset.specs.Sets.{Set, none, below}
 use Rattle.records.specs.Fields.{functions, nodes, result_of, params_of, vars_of, count_of, kind_at, b_at}
 use Rattle.records.specs.Parts.{sum_of, start_of, part_of}
 use Rattle.records.specs.Children.{arities, arity_of}
-use Rattle.records.specs.declared.Found.TheVariants.{Nothing}
 use Rattle.records.proofs.Bools.{and_left, and_right}
 use Rattle.spec_language.specs.Statements.{prior, last, shapes, shape_at, Statement, Nop, Seq, Assign, Decl, If, While, Return, Assert, Expr, statement_at}
 use Rattle.spec_language.specs.Flow.{lacks, returns}
@@ -155,7 +155,7 @@ module _ (s : List ℕ) (h : accept.Accepted s) (f : ℕ) (l : f < functions s) 
       at : (x : ℕ) → ltb x (params_of s f) ≡ ltb x (length (types_from (types.var_type s f t n) (params_of s f) 0))
       at x = rw (types_length (types.var_type s f t n) (params_of s f) 0)
 
-  body_flows : lacks (stmt_at t (ref_at t (n - 1))) (param_set (fun_of s f)) ≡ Nothing
+  body_flows : lacks (stmt_at t (ref_at t (n - 1))) (param_set (fun_of s f)) ≡ None
   body_flows = rw (ref_tree t (n - 1)) (rw parameters at (h.thirteen f l))
 
   all_real : Real (var_types (fun_of s f))

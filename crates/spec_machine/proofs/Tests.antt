@@ -1,4 +1,5 @@
 -- The test of fitness is true of the fit states, and of no other.
+use Rattle.std.specs.Prelude.{Some, Option, None}
 use mathlib.Core.Path.{◌≡◌, refl}
 use mathlib.Core.Logic.{inl, inr, ⊎_elim}
 use mathlib.Core.List.{List, [], ◌∷◌}
@@ -6,9 +7,8 @@ use Prim.Native.Nat.{ℕ, ◌+◌, ◌^◌}
 use native.Mathlib.Omega.{arith}
 use lib.ListN.{length}
 use Rattle.varset.specs.Sets.{Set, with, both}
-use Rattle.records.specs.Search.{clear}
+use Rattle.records.specs.Search.{At, clear}
 use Rattle.records.specs.declared.Found.{Found}
-use Rattle.records.specs.declared.Found.TheVariants.{At, Nothing}
 use Rattle.spec_language.specs.Flow.{leaves, missing, lacks}
 use Rattle.spec_machine.specs.Values.{Ty, t_int, t_bool, Value, nothing, int, truth, type_v}
 use Rattle.spec_machine.specs.Program.{Operation, op, fn, Ref, Program, type_n, var_types, type_of_var, gives}
@@ -28,9 +28,9 @@ types_say (t ∷ ts) (u ∷ us) =
     record { so = λ e. let p = r.so e in rw (p.0, p.1); if = λ q. r.if (cc, cc) }
 
 -- a search is clear where it found nothing
-pub clear_says : (found : Found) → Says (clear found) (found ≡ Nothing)
-clear_says (At i x) = never (λ q. let z : ◌≡◌ {A = ℕ} 0 1 = cc in omega arith)
-clear_says Nothing = record { so = λ e. refl; if = λ q. refl }
+pub clear_says : (found : Option Found) → Says (clear found) (found ≡ None)
+clear_says (Some found) = never (λ q. let z : ◌≡◌ {A = ℕ} 0 1 = cc in omega arith)
+clear_says None = record { so = λ e. refl; if = λ q. refl }
 
 pub hold_says : (v : Value) (t : Ty) → Says (holds_typed v t) (HoldsTyped v t)
 hold_says nothing t = record { so = λ e. inl refl; if = λ h. refl }

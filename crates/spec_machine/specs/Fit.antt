@@ -1,8 +1,7 @@
 -- The states that are fit.
-use Rattle.std.specs.Prelude.{◌≡◌, ◌⊎◌, Bool, true, false, ◌||◌, ◌&&◌, not, List, [], ◌∷◌, ◌++◌, map, ℕ, ◌+◌, ◌^◌, ◌≤◌, ◌<◌, get_or, length}
+use Rattle.std.specs.Prelude.{None, ◌≡◌, ◌⊎◌, Bool, true, false, ◌||◌, ◌&&◌, not, List, [], ◌∷◌, ◌++◌, map, ℕ, ◌+◌, ◌^◌, ◌≤◌, ◌<◌, get_or, length}
 use Rattle.varset.specs.Sets.{Set, with, both, either, below}
 use Rattle.records.specs.Format.{most_variables}
-use Rattle.records.specs.declared.Found.TheVariants.{Nothing}
 use Rattle.spec_language.specs.Flow.{leaves, missing, lacks, returns}
 use Rattle.spec_machine.specs.Values.{Ty, t_bool, Value, nothing, int, truth, type_v}
 use Rattle.spec_machine.specs.Program.{Operation, op, fn, Ref, node, if_of, seq_of, ExprForm, const, apply, StmtForm, Program, owns, type_n, var_types, type_of_var, wants, gives, if_given}
@@ -100,10 +99,10 @@ KnownOperation P (fn g) = HasFunction P g
 
 -- every variable that an expression, or a statement, reads has a value by then
 abbrev pub Reads : Program → ℕ → ℕ → Set → Type 0
-Reads P f n d = missing (P.reads f n) d ≡ Nothing
+Reads P f n d = missing (P.reads f n) d ≡ None
 
 abbrev pub Ok : Program → ℕ → Ref → Set → Type 0
-Ok P f r d = lacks (P.stmt f r) d ≡ Nothing
+Ok P f r d = lacks (P.stmt f r) d ≡ None
 
 -- the same of several expressions
 abbrev pub ReadsNodes : Program → ℕ → List ℕ → Set → Type 0

@@ -7,6 +7,8 @@ ghost use Rattle.spec_image.specs.Layout.{control_words, env_words};
 ghost use Rattle.spec_image.specs.Image.{image};
 ghost use Rattle.spec_image.specs.Core.{core, HoldingRun};
 
+use state_words::layout::TAG_RUNNING;
+
 // Enters the first function, g of c variables, where all words but the environment's are zero.
 pub fn enter_main(m: &mut [u32], g: u32, c: u32)
     requires { size ≤ length m.old }
@@ -29,7 +31,7 @@ pub fn store_head(m: &mut [u32], a: usize, callers: u32, frames: u32, form: u32,
     requires { (size ≤ length m.old) × (a < caller_room) × (callers ≡ a) }
     ensures { (c : Control) → HoldingRun m.old (λ α f η K A R. a ≡ length A → frames ≡ length K → control_words c ≡ form ∷ word ∷ [] → m.new ≡ image (running c α f η K A) ++ R) }
 {
-    m[0] = 2;
+    m[0] = TAG_RUNNING;
     m[1] = 0;
     m[2] = callers + 1;
     m[3] = form;

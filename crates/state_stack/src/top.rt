@@ -69,10 +69,8 @@ pub fn push_gather(
     ensures { (result ≤ last) × ((f : ℕ) (η : List Value) (h : Operation) (e : ℕ) (ns : List ℕ) (K : List Frame) (A : List Saved) (R : List ℕ) → m.old ≡ core f η K A ++ R → length A < caller_room → n ≡ length (K ++ saved_frames A) → ((z : ℕ) → z ≤ slot_room → frame_words (gather h [] (replicate z 0)) ≡ filled frame_size (kind ∷ x ∷ 0 ∷ z ∷ [])) → backwards (walk (size_at part.now) k last) [] ≡ e ∷ ns → (result ≡ e) × (m.new ≡ core f η (gather h [] ns ∷ K) A ++ R)) }
 {
     state_words::frames::put_frame(m, n, kind, x, 0, k - 1);
-    let mut j = k as usize - 1;
     let mut c = last;
-    while 0 < j {
-        j -= 1;
+    for j in (0..k as usize - 1).rev() {
         m[FRAMES + n * FRAME_WORDS + (SLOTS + j * 2)] = c as u32;
         c = prior(part, c);
     }

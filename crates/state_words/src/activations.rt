@@ -1,4 +1,6 @@
 // The words of activations in lent memory.
+#![tactic(auto, unfolding(crate::specs::Meaning::activation_at, crate::specs::Meaning::variable_at))]
+
 ghost use Rattle.std.specs.Prelude.{◌≡◌, [], ◌∷◌, ◌+◌, ◌*◌, ◌≤◌, ◌<◌, min, length, get_or, replicate};
 ghost use Rattle.spec_image.specs.Sizes.{activation_size, caller_room, size, variable_room, variables_from};
 ghost use Rattle.words.specs.Blocks.{puts};
@@ -18,15 +20,14 @@ pub fn activation_word(m: &[u32], n: usize, j: usize) -> u32
 }
 
 // How many frames the first n activations have together.
+#[tactic(auto, using(crate::proofs::Totals::total_next))]
 pub fn frames_held(m: &[u32], n: usize) -> usize
     requires { (size ≤ length m.now) × (n ≤ caller_room) }
     ensures { result ≡ held_in m.now n }
 {
     let mut sum = 0;
-    let mut a = 0;
-    while a < n {
+    for a in 0..n {
         sum += activation_word(m, a, 1) as usize;
-        a += 1;
     }
     sum
 }
@@ -37,7 +38,7 @@ pub fn put_activation(m: &mut [u32], n: usize, function: u32, frames: u32, varia
     ensures { m.new ≡ puts m.old (activation_at n) 0 (function ∷ frames ∷ variables ∷ []) }
 {
     let at = ACTIVATIONS + n * ACTIVATION_WORDS;
-    m[at + 0] = function;
+    m[at] = function;
     m[at + 1] = frames;
     m[at + 2] = variables;
 }
@@ -48,7 +49,7 @@ pub fn put_frame_count(m: &mut [u32], n: usize, frames: u32)
     ensures { m.new ≡ puts m.old (activation_at n + 1) 0 (frames ∷ []) }
 {
     let at = ACTIVATIONS + n * ACTIVATION_WORDS + 1;
-    m[at + 0] = frames;
+    m[at] = frames;
 }
 
 // The words of an activation set to zero.

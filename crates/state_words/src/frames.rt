@@ -1,4 +1,6 @@
 // The words of frames in lent memory.
+#![tactic(auto, unfolding(crate::specs::Meaning::frame_at, crate::specs::Meaning::slot_at))]
+
 ghost use Rattle.std.specs.Prelude.{◌≡◌, [], ◌∷◌, ◌+◌, ◌*◌, ◌≤◌, ◌<◌, length, get_or, replicate};
 ghost use Rattle.words.specs.Blocks.{puts};
 ghost use Rattle.spec_image.specs.Sizes.{frame_size, frame_room, size};

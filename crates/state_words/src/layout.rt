@@ -1,4 +1,6 @@
 // The numbers of the layout, and the limits of the machine; the room for callers and frames is a number of the contracts alone.
+// Tags, forms and kinds of frames are words of an image, which other programs read: an enum of them would stand beside Control and Top, which
+// say the same, and would need a number for each word and back.
 
 // The words of an image.
 pub const IMAGE_WORDS: usize = 16384;
@@ -104,3 +106,6 @@ pub const FRAME_RETURN: u32 = 7;
 
 // The kind of `assert(_)`.
 pub const FRAME_ASSERT: u32 = 8;
+
+// The kind of an expression's statement, whose value is dropped.
+pub const FRAME_DISCARD: u32 = 9;

@@ -41,7 +41,8 @@ pub enum Control {
     Exec(u32),
 }
 
-// The value of a type and a word.
+// The value of a type and a word. The types, forms and words here are numbers since an image has them, which other programs read.
+#[tactic(auto, unfolding(crate::specs::Meaning::value_is, spec_image::specs::Decode::value_of))]
 fn value_of(tag: u32, word: u32) -> Value
     ensures { value_is result ≡ value_of tag word }
 {
@@ -65,18 +66,20 @@ fn put_pair(m: &mut [u32], at: usize, a: u32, b: u32)
     requires { at + 2 ≤ length m.old }
     ensures { m.new ≡ puts m.old at 0 (a ∷ b ∷ []) }
 {
-    m[at + 0] = a;
+    m[at] = a;
     m[at + 1] = b;
 }
 
 // The number of a bool.
+#[tactic(auto, unfolding(spec_image::specs::Layout::bit))]
 pub fn bit_of(b: bool) -> u32
     ensures { result ≡ bit b }
 {
-    if b { 1 } else { 0 }
+    u32::from(b)
 }
 
 // A value stored in the two words at a place.
+#[tactic(auto, unfolding(crate::specs::Meaning::value_is, spec_image::specs::Layout::value_words))]
 pub fn put_value(m: &mut [u32], at: usize, v: Value)
     requires { at + 2 ≤ length m.old }
     ensures { m.new ≡ puts m.old at 0 (value_words (value_is v)) }
@@ -89,6 +92,7 @@ pub fn put_value(m: &mut [u32], at: usize, v: Value)
 }
 
 // The reference of a word.
+#[tactic(auto, unfolding(crate::specs::Meaning::ref_is, spec_image::specs::Decode::ref_of))]
 pub fn ref_of(word: u32) -> Ref
     ensures { ref_is result ≡ ref_of word }
 {
@@ -105,6 +109,7 @@ pub fn ref_of(word: u32) -> Ref
 }
 
 // The control of a form and a word.
+#[tactic(auto, unfolding(crate::specs::Meaning::control_is, spec_image::specs::Decode::control_of))]
 pub fn control_of(form: u32, word: u32) -> Control
     ensures { control_is result ≡ control_of form word }
 {
@@ -118,12 +123,15 @@ pub fn control_of(form: u32, word: u32) -> Control
 }
 
 // The control that has a value at hand.
-pub fn at_hand(v: Value) -> Control
-    ensures { control_is result ≡ machine.val (value_is v) }
-{
-    match v {
-        Value::Nothing => Control::Nothing,
-        Value::Int(word) => Control::Int(word),
-        Value::Truth(truth) => Control::Truth(truth),
+impl From<Value> for Control {
+    ghost from_gives = { λ v c. control_is c ≡ machine.val (value_is v) };
+
+    #[tactic(auto, unfolding(crate::specs::Meaning::value_is, crate::specs::Meaning::control_is))]
+    fn from(v: Value) -> Control {
+        match v {
+            Value::Nothing => Control::Nothing,
+            Value::Int(word) => Control::Int(word),
+            Value::Truth(truth) => Control::Truth(truth),
+        }
     }
 }

@@ -1,1 +1,2 @@
-pub mod Waiting
+pub mod Digits
+pub mod Putting

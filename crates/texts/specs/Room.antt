@@ -1,5 +1,5 @@
 -- A text put into a buffer.
-use Rattle.std.specs.Prelude.{◌≡◌, List, ◌++◌, ℕ, ◌+◌, ◌≤◌, length, take}
+use Rattle.std.specs.Prelude.{◌≡◌, List, ◌++◌, ℕ, ◌+◌, ◌-◌, ◌≤◌, ◌<◌, length, take, get_or}
 
 -- r bytes wait in the buffer, which is as long as before; where there was room for the text, they are those that waited and the text
 pub record Put (before : List ℕ) (at : ℕ) (text after : List ℕ) (r : ℕ) : Type 0 where
@@ -7,3 +7,11 @@ pub record Put (before : List ℕ) (at : ℕ) (text after : List ℕ) (r : ℕ) 
   pub same : length after ≡ length before
   pub counted : at + length text ≤ length before → r ≡ at + length text
   pub waits : at + length text ≤ length before → take r after ≡ take at before ++ text
+
+-- where the buffer has bytes at all, the last one that waits is b
+abbrev pub Ends : List ℕ → ℕ → ℕ → Type 0
+Ends bytes used b = 0 < length bytes → (0 < used) × (get_or bytes (used - 1) 0 ≡ b)
+
+-- where the buffer has bytes at all, the last one that waits is no control byte below 32
+abbrev pub EndsInside : List ℕ → ℕ → Type 0
+EndsInside bytes used = 0 < length bytes → (0 < used) × (32 ≤ get_or bytes (used - 1) 0)

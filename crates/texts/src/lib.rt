@@ -1,136 +1,141 @@
 // Text for standard output, gathered in a lent buffer that is written out whenever it is full.
-//
-// A position counts the bytes that wait at the start of the buffer.
 #![tactic(auto)]
 
 pub mod kinds;
 
-ghost use Rattle.std.specs.Prelude.{◌≡◌, ◌+◌, ◌≤◌, ◌<◌, length};
-ghost use Rattle.texts.specs.Room.{Put};
+ghost use Rattle.std.specs.Prelude.{◌≡◌, min, ◌-◌, ◌≤◌, ◌<◌, [], ◌∷◌, length, take, get_or, slice_get, MatchOption};
+ghost use Rattle.texts.specs.Room.{Put, Ends, EndsInside};
 
-// The smaller number.
-fn least(a: usize, b: usize) -> usize
-    ensures { (result ≤ a) × (result ≤ b) × (a ≤ b → result ≡ a) }
-{
-    if a <= b { a } else { b }
+// A lent buffer, and how many bytes wait at its start.
+//
+// It is no `fmt::Write`: `write!` answers a Result, while what is put here cannot fail, and what waits then is promised in every case.
+#[derive(Drop)]
+pub struct Text<'a> {
+    pub bytes: &'a mut [u8],
+    pub used: usize,
+    pub ghost inside: { used ≤ length bytes.now },
 }
 
-// The position of the next byte, after a full buffer is written out.
-fn room_at(out: &[u8], at: usize) -> usize
-    ensures { (result ≤ at) × (at < length out.now → result ≡ at) }
-{
-    if at < out.len() {
-        return at;
+impl<'a> Text<'a> {
+    // A text of which nothing waits yet.
+    pub fn new(bytes: &'a mut [u8]) -> Text<'a>
+        ensures none { result.used ≡ 0 }
+        ensures whole { length result.bytes.now ≡ length bytes.old }
+    {
+        Text { bytes, used: 0 }
     }
-    io::write_all(1, out);
-    0
-}
 
-// Puts a text after the first `at` bytes of the buffer, and answers how many bytes wait then.
-pub fn put(out: &mut [u8], at: usize, text: &[u8]) -> usize
-    ensures { Put out.old at text.now out.new result }
-{
-    let mut n = least(at, out.len());
-    let mut i = 0;
-    while i < text.len() {
-        n = room_at(out, n);
-        if out.len() <= n {
-            return n;
+    // A text of whose buffer so many bytes wait already, or all where it has fewer.
+    pub fn resumed(bytes: &'a mut [u8], waiting: usize) -> Text<'a>
+        ensures used { result.used ≡ min waiting (length bytes.old) }
+        ensures same { result.bytes.now ≡ bytes.old }
+    {
+        let used = waiting.min(bytes.len());
+        Text { bytes, used }
+    }
+
+    // The bytes that wait.
+    pub fn waiting(&self) -> &[u8]
+        ensures { result.now ≡ take self.now.used self.now.bytes.now }
+    {
+        &self.bytes[..self.used]
+    }
+
+    // Writes out the bytes that wait, so that none does.
+    pub fn write_out(&mut self)
+        ensures none { self.new.used ≡ 0 }
+        ensures same { self.new.bytes.now ≡ self.old.bytes.now }
+    {
+        io::write_all(1, self.waiting());
+        self.used = 0;
+    }
+
+    // Makes room for a byte: writes out a full buffer.
+    fn make_room(&mut self)
+        ensures same { self.new.bytes.now ≡ self.old.bytes.now }
+        ensures used { (self.new.used ≤ self.old.used) × (self.old.used < length self.old.bytes.now → self.new.used ≡ self.old.used) }
+        ensures room { 0 < length self.old.bytes.now → self.new.used < length self.old.bytes.now }
+    {
+        if self.bytes.len() <= self.used {
+            self.write_out();
         }
-        out[n] = text[i];
-        n += 1;
-        i += 1;
     }
-    n
-}
 
-// Puts a number in decimal.
-pub fn put_decimal(out: &mut [u8], at: usize, n: u64) -> usize
-    ensures { result ≤ length out.new }
-{
-    let mut digits = [0u8; 20];
-    let k = io::decimal(n, &mut digits);
-    put(out, at, &digits[..k])
-}
-
-// Puts a text and a number after it.
-pub fn put_numbered(out: &mut [u8], at: usize, text: &[u8], n: u64) -> usize
-    ensures { result ≤ length out.new }
-{
-    let next = put(out, at, text);
-    put_decimal(out, next, n)
-}
-
-// Puts the int whose 32 bits are given, with its sign.
-pub fn put_int(out: &mut [u8], at: usize, bits: u32) -> usize
-    ensures { result ≤ length out.new }
-{
-    if bits < 2147483648 {
-        return put_decimal(out, at, bits as u64);
-    }
-    put_numbered(out, at, b"-", (u32::MAX - bits) as u64 + 1)
-}
-
-// Puts a refusal as a line.
-pub fn put_refusal(out: &mut [u8], at: usize, question: u8, place: usize, item: u32) -> usize
-    ensures { result ≤ length out.new }
-{
-    let second = put_numbered(out, at, b"refused ", question as u64);
-    let third = put_numbered(out, second, b" place ", place as u64);
-    let end = put_numbered(out, third, b" item ", item as u64);
-    put(out, end, b"\n")
-}
-
-// Where word k of a list begins: past k semicolons, or at the end.
-pub fn word_start(list: &[u8], k: usize) -> usize
-    ensures { result ≤ length list.now }
-{
-    let mut left = k;
-    let mut i = 0;
-    while i < list.len() {
-        if left == 0 {
-            return i;
+    // Puts a byte after those that wait; a buffer of no bytes takes nothing.
+    pub fn put_byte(&mut self, b: u8)
+        ensures put { Put self.old.bytes.now self.old.used (b ∷ []) self.new.bytes.now self.new.used }
+        ensures last { Ends self.new.bytes.now self.new.used b }
+    {
+        self.make_room();
+        if self.used < self.bytes.len() {
+            self.bytes[self.used] = b;
+            self.used += 1;
         }
-        if list[i] == b';' {
-            left -= 1;
+    }
+
+    // Puts a text after the bytes that wait.
+    pub fn put(&mut self, text: &[u8])
+        ensures put { Put self.old.bytes.now self.old.used text.now self.new.bytes.now self.new.used }
+        ensures last { 0 < length text.now → Ends self.new.bytes.now self.new.used (get_or text.now (length text.now - 1) 0) }
+    {
+        for b in text {
+            self.put_byte(*b);
         }
-        i += 1;
     }
-    i
-}
 
-// Where the word that begins at `start` ends: before the next semicolon, or at the end.
-fn word_end(list: &[u8], start: usize) -> usize
-    requires { start ≤ length list.now }
-    ensures { (start ≤ result) × (result ≤ length list.now) }
-{
-    let mut i = start;
-    while i < list.len() {
-        if list[i] == b';' {
-            return i;
+    // Puts a number in decimal.
+    pub fn put_decimal(&mut self, n: u64)
+        ensures { EndsInside self.new.bytes.now self.new.used }
+    {
+        let mut digits = [0u8; 20];
+        let k = io::decimal(n, &mut digits);
+        self.put(&digits[..k]);
+    }
+
+    // Puts a text and a number after it.
+    pub fn put_numbered(&mut self, text: &[u8], n: u64)
+        ensures { EndsInside self.new.bytes.now self.new.used }
+    {
+        self.put(text);
+        self.put_decimal(n);
+    }
+
+    // Puts the int whose 32 bits are given, with its sign.
+    pub fn put_int(&mut self, bits: u32)
+        ensures { EndsInside self.new.bytes.now self.new.used }
+    {
+        if bits < 2147483648 {
+            self.put_decimal(bits as u64);
+        } else {
+            self.put_numbered(b"-", (u32::MAX - bits) as u64 + 1);
         }
-        i += 1;
     }
-    i
+
+    // Puts a refusal as a line.
+    pub fn put_refusal(&mut self, question: u8, place: usize, item: u32)
+        ensures { Ends self.new.bytes.now self.new.used 10 }
+    {
+        self.put_numbered(b"refused ", question as u64);
+        self.put_numbered(b" place ", place as u64);
+        self.put_numbered(b" item ", item as u64);
+        self.put_byte(b'\n');
+    }
+
+    // Puts word k of a list, and nothing where it has no such word.
+    pub fn put_word(&mut self, words: &[&str], k: usize)
+        ensures { MatchOption (slice_get words.now k) (Put self.old.bytes.now self.old.used [] self.new.bytes.now self.new.used) (λ w. Put self.old.bytes.now self.old.used w.now self.new.bytes.now self.new.used) }
+    {
+        let word = word_of(words, k).as_bytes();
+        self.put(word);
+    }
 }
 
-// Puts word k of a list whose words stand between semicolons, and nothing where it has no such word.
-pub fn put_word(out: &mut [u8], at: usize, list: &[u8], k: usize) -> usize
-    ensures { result ≤ length out.new }
+// Word k of a list, and the empty one where it has no such word.
+pub fn word_of<'a>(words: &[&'a str], k: usize) -> &'a str
+    ensures { MatchOption (slice_get words.now k) (result.now ≡ []) (λ w. result.now ≡ w.now) }
 {
-    let start = word_start(list, k);
-    let end = word_end(list, start);
-    put(out, at, &list[start..end])
-}
-
-// Writes out the bytes that wait, and answers that none does.
-pub fn write_out(out: &[u8], at: usize) -> usize
-    ensures { result ≡ 0 }
-{
-    if at <= out.len() {
-        let start = 0;
-        let text = &out[start..at];
-        io::write_all(1, text);
+    match words.get(k) {
+        Some(word) => *word,
+        None => "",
     }
-    0
 }

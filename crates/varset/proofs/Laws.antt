@@ -1,6 +1,6 @@
 -- The bit operations on numbers of any width are the operations on sets.
 use mathlib.Core.Path.{◌≡◌, refl, sym, ap, ◌∙◌}
-use mathlib.Core.Bool.{Bool, true, false, not, ◌&&◌, ◌||◌}
+use mathlib.Core.Bool.{Bool, true, false, ◌&&◌, ◌||◌}
 use Prim.Native.Nat.{ℕ, zero, suc, ◌+◌, ◌-◌, ◌*◌, ◌/◌, ◌%◌, ◌^◌, ◌≤◌, ◌<◌, min, max}
 use native.Mathlib.Nat.{mod-lt, zero-lt-suc, not-suc-le-zero, le_of_suc-le-suc, div-eq_of_lt, div-one, one-mul, pow-suc}
 use native.Mathlib.Numerals.{one-add}
@@ -9,10 +9,10 @@ use borrow.Author.Tests.{lt-ltb, le-ltb, ltb-true, ltb-false}
 use lib.Dec.{eqb, ltb, lit<, eqb-zero-suc, eqb-suc-zero, eqb-suc-suc}
 use lib.Count.{count_trailing_zeros, under}
 use lib.Arith.{digits_mod}
-use lib.Bits.{differ, bit_and, bit_or, bit_xor, and_step, or_step, xor_step, and_shr, or_shr, xor_shr, shifted_half, shifted_even}
+use lib.Bits.{bit_and, bit_or, and_step, or_step, and_shr, or_shr, shifted_half, shifted_even}
 use lib.Pow.{pow_pos, pow-lt, shr-shr, shl_exact}
 use Rattle.varset.specs.Lowest.{pick, lowest}
-use Rattle.varset.specs.Sets.{has, with, without, both, either, less, none, below}
+use Rattle.varset.specs.Sets.{has, with, both, either, none, below}
 
 -- how an operation on digits acts on members
 record Digits (f : ℕ → ℕ → ℕ) (g : Bool → Bool → Bool) : Type 0 where
@@ -56,21 +56,6 @@ and_has = op_has bit_and min ◌&&◌ and_step and_shr (table min ◌&&◌ (lit<
 
 pub or_has : (a b i : ℕ) → has (bit_or a b) i ≡ has a i || has b i
 or_has = op_has bit_or max ◌||◌ or_step or_shr (table max ◌||◌ (lit< tt) (lit< tt) (lit< tt) (lit< tt) refl refl refl refl)
-
-abbrev unlike : Bool → Bool → Bool
-unlike true b = not b
-unlike false b = b
-
-pub xor_has : (a b i : ℕ) → has (bit_xor a b) i ≡ unlike (has a i) (has b i)
-xor_has = op_has bit_xor differ unlike xor_step xor_shr (table differ unlike (lit< tt) (lit< tt) (lit< tt) (lit< tt) refl refl refl refl)
-
-drop_shared : (s t : Bool) → unlike s (s && t) ≡ s && not t
-drop_shared true t = refl
-drop_shared false t = refl
-
--- what a has and b has not, with no complement and so no width
-pub less_has : (a b i : ℕ) → has (bit_xor a (bit_and a b)) i ≡ has a i && not (has b i)
-less_has a b i = xor_has a (bit_and a b) i ∙ ap (unlike (has a i)) (and_has a b i) ∙ drop_shared (has a i) (has b i)
 
 pub zero_has : (i : ℕ) → has 0 i ≡ false
 unfolding has
@@ -125,17 +110,9 @@ pub either_is : (a b : ℕ) → has (bit_or a b) ≡ either (has a) (has b)
 unfolding either
 either_is a b = λ k j. or_has a b j k
 
-pub less_is : (a b : ℕ) → has (bit_xor a (bit_and a b)) ≡ less (has a) (has b)
-unfolding less
-less_is a b = λ k j. less_has a b j k
-
 pub with_is : (w a i : ℕ) → i < w → has (bit_or a (1 * 2 ^ i % 2 ^ w)) ≡ with (has a) i
 unfolding with
 with_is w a i h = λ k j. (or_has a (1 * 2 ^ i % 2 ^ w) j ∙ ap (λ (b : Bool). has a j || b) (shl_has w i j h)) k
-
-pub without_is : (w a i : ℕ) → i < w → has (bit_xor a (bit_and a (1 * 2 ^ i % 2 ^ w))) ≡ without (has a) i
-unfolding without
-without_is w a i h = λ k j. (less_has a (1 * 2 ^ i % 2 ^ w) j ∙ ap (λ (b : Bool). has a j && not b) (shl_has w i j h)) k
 
 -- a row of n ones has the numbers below n
 ones_half : (n : ℕ) → (2 ^ suc n - 1) / 2 ≡ 2 ^ n - 1

@@ -6,14 +6,14 @@ ghost use Rattle.varset.specs.Lowest.{lowest};
 ghost use Rattle.varset.specs.Sets.{has, none, with, without, both, either, less, below};
 
 // A set of numbers below 64.
-#[derive(Clone, Copy)]
+#[derive(Clone, Copy, Debug, Default, PartialEq, Eq)]
 pub struct VarSet(pub u64);
 
 // The set without members.
 pub const EMPTY: VarSet = VarSet(0);
 
 // The set of all numbers below 64.
-pub const FULL: VarSet = VarSet(18446744073709551615);
+pub const FULL: VarSet = VarSet(u64::MAX);
 
 impl VarSet {
     // The set without members.
@@ -55,7 +55,7 @@ impl VarSet {
         requires { i < 64 }
         ensures { has result.0 ≡ without (has self.0) i }
     {
-        VarSet(self.0 ^ (self.0 & (1u64 << i)))
+        VarSet(self.0 & !(1u64 << i))
     }
 
     // What two sets share.
@@ -76,7 +76,7 @@ impl VarSet {
     pub fn minus(self, other: VarSet) -> VarSet
         ensures { has result.0 ≡ less (has self.0) (has other.0) }
     {
-        VarSet(self.0 ^ (self.0 & other.0))
+        VarSet(self.0 & !other.0)
     }
 
     // Whether there is no member.
@@ -86,7 +86,7 @@ impl VarSet {
         self.0 == 0
     }
 
-    // Whether i is a member.
+    // Whether i is a member. The shift is kept: it reads the bit as the definition of a member does, and a mask reads no plainer.
     pub fn contains(self, i: u32) -> bool
         requires { i < 64 }
         ensures { result ≡ has self.0 i }
@@ -98,6 +98,6 @@ impl VarSet {
     pub fn lowest(self) -> u32
         ensures { result ≡ lowest (has self.0) 64 }
     {
-        u64::trailing_zeros(self.0)
+        self.0.trailing_zeros()
     }
 }

@@ -78,10 +78,9 @@ next_at l at next k e h = rw (e, drop-cons l at 0 h)
 
 -- four words by their places
 pub four_at : (l : List ℕ) (at : ℕ) → at + 4 ≤ length l
-    → take 4 (drop at l) ≡ get_or l (at + 0) 0 ∷ get_or l (at + 1) 0 ∷ get_or l (at + 2) 0 ∷ get_or l (at + 3) 0 ∷ []
+    → take 4 (drop at l) ≡ get_or l at 0 ∷ get_or l (at + 1) 0 ∷ get_or l (at + 2) 0 ∷ get_or l (at + 3) 0 ∷ []
 four_at l at h =
     rw (
-      add-zero at,
       next_at l at (at + 1) 3 (omega arith) (omega arith),
       next_at l (at + 1) (at + 2) 2 (omega arith) (omega arith),
       next_at l (at + 2) (at + 3) 1 (omega arith) (omega arith),

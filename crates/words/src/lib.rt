@@ -5,32 +5,21 @@ ghost use Rattle.std.specs.Prelude.{◌≡◌, [], ◌∷◌, ◌+◌, ◌*◌, 
 ghost use Rattle.words.specs.Blocks.{puts, all_zero};
 ghost use Rattle.words.specs.Moves.{moved};
 
-// Sets every word to zero.
-fn zero(s: &mut [u32])
-    ensures { s.new ≡ replicate (length s.old) 0 }
-{
-    let mut done = 0;
-    while done < s.len() {
-        s[done] = 0;
-        done += 1;
-    }
-}
-
 // Sets the n words at a place to zero.
 pub fn zero_at(m: &mut [u32], at: usize, n: usize)
     requires { at + n ≤ length m.old }
     ensures { m.new ≡ puts m.old at 0 (replicate n 0) }
 {
     let end = at + n;
-    zero(&mut m[at..end]);
+    m[at..end].fill(0);
 }
 
-// Stores four words at a place.
+// Stores four words at a place. Each has a store of its own, since copy_from_slice takes the words through memory in the machine's step.
 pub fn put_four(m: &mut [u32], at: usize, a: u32, b: u32, c: u32, d: u32)
     requires { at + 4 ≤ length m.old }
     ensures { m.new ≡ puts m.old at 0 (a ∷ b ∷ c ∷ d ∷ []) }
 {
-    m[at + 0] = a;
+    m[at] = a;
     m[at + 1] = b;
     m[at + 2] = c;
     m[at + 3] = d;
@@ -41,7 +30,7 @@ fn move_four(m: &mut [u32], from: usize, to: usize)
     requires { (to + 4 ≤ from) × (from + 4 ≤ length m.old) }
     ensures { m.new ≡ moved m.old from to 4 }
 {
-    let a = m[from + 0];
+    let a = m[from];
     let b = m[from + 1];
     let c = m[from + 2];
     let d = m[from + 3];
@@ -54,23 +43,19 @@ pub fn move_down(m: &mut [u32], from: usize, to: usize, n: usize)
     requires { (to + n * 4 ≤ from) × (from + n * 4 ≤ length m.old) }
     ensures { m.new ≡ moved m.old from to (n * 4) }
 {
-    let mut i = 0;
-    while i < n {
+    for i in 0..n {
         move_four(m, from + i * 4, to + i * 4);
-        i += 1;
     }
 }
 
-// Whether every word is zero, one by one.
+// Whether every word is zero, one by one: by index, since a slice's iterator hands on pairs with a pointer, which c/port carries to no other processor.
 fn each_zero(s: &[u32]) -> bool
     ensures { result ≡ all_zero s.now }
 {
-    let mut i = 0;
-    while i < s.len() {
+    for i in 0..s.len() {
         if s[i] != 0 {
             return false;
         }
-        i += 1;
     }
     true
 }
@@ -85,7 +70,7 @@ fn eight_zero(s: &[u32]) -> bool
     low & high
 }
 
-// Whether every word is zero, eight at a time.
+// Whether every word is zero, eight at a time: a while, since chunks hand on such pairs, too.
 fn by_eights(s: &[u32]) -> bool
     ensures { result ≡ all_zero s.now }
 {

@@ -9,4 +9,4 @@ returns-then-no_shift c = shift_raises _ _ _ (sym c.no_shift.ensures ∙ c.if-no
 
 pub returns : goal.returns
 returns c = let s = c.ranges in
-    ap Int (sym (shl_law _ _ s.a.fits)) ∙ shift_gives _ _ _ s.b.fits (sym c.no_shift.ensures ∙ c.if-no_shift.false)
+    ap Int (c.wrapping_shl.ensures ∙ sym (shl_law _ _ s.a.fits)) ∙ shift_gives _ _ _ s.b.fits (sym c.no_shift.ensures ∙ c.if-no_shift.false)

@@ -8,5 +8,5 @@ returns-then-no_shift c = shift_raises _ _ _ (sym c.no_shift.ensures ∙ c.if-no
 
 pub returns : goal.returns
 returns c = let s = c.ranges in
-    shifted_is _ _ s.a.fits c.signed-z.ensures c.bits.ensures
+    shifted_is _ _ s.a.fits c.signed.ensures (c.bits.ensures ∙ rw c.wrapping_shr.ensures)
     ∙ shift_gives _ _ _ s.b.fits (sym c.no_shift.ensures ∙ c.if-no_shift.false)

@@ -1,5 +1,4 @@
 use Rattle.check_file.proofs.FoundPlaces.{placed_lacks}
-use Rattle.check_shape.specs.Failing.{fails}
 use Rattle.spec_language.specs.Nodes.{answers}
 use native.Mathlib.Omega.{arith}
 use Rattle.check_file.proofs.FoundPlaces.{head_inside, placed_first, placed_undeclared, placed_unless, placed_none, past_fourteen}
@@ -22,35 +21,35 @@ pub not_returning-requires : goal.not_returning-requires
 not_returning-requires c = ((c.requires.known.1 (omega arith)).0, search rules, (c.requires.known.1 (omega arith)).1)
 
 pub returns-in-7 : goal.returns-in-7
-unfolding answers fails
-returns-in-7 c = record { exact = rw c.in-7.is c.first_node.ensures; small = placed_first _ _ _ c.first_node.ensures }
+unfolding answers
+returns-in-7 c = record { exact = rw c.in-7.is c.first_wrong_node.ensures; small = placed_first _ _ _ c.first_wrong_node.ensures }
 
 pub returns-in-8 : goal.returns-in-8
-unfolding answers fails
-returns-in-8 c = record { exact = rw c.in-8.is c.first_node-in-8.ensures; small = placed_first _ _ _ c.first_node-in-8.ensures }
+unfolding answers
+returns-in-8 c = record { exact = rw c.in-8.is c.first_wrong_size.ensures; small = placed_first _ _ _ c.first_wrong_size.ensures }
 
 pub returns-in-9 : goal.returns-in-9
-unfolding answers fails
+unfolding answers
 returns-in-9 c = record { exact = rw c.in-9.is c.first_misplaced.ensures; small = placed_first _ _ _ c.first_misplaced.ensures }
 
 pub returns-in-10 : goal.returns-in-10
-unfolding answers fails
+unfolding answers
 returns-in-10 c = record { exact = rw c.in-10.is c.first_undeclared.ensures; small = placed_undeclared _ _ _ _ c.first_undeclared.ensures (c.requires.laid.0.vars _ c.requires.laid.1) (search rules) }
 
 pub returns-in-11 : goal.returns-in-11
-unfolding answers fails
+unfolding answers
 returns-in-11 c = record { exact = rw c.in-11.is c.first_outside.ensures; small = placed_first _ _ _ c.first_outside.ensures }
 
 pub returns-in-12 : goal.returns-in-12
-unfolding answers fails
+unfolding answers
 returns-in-12 c = record { exact = rw c.in-12.is c.first_mistyped.ensures; small = placed_first _ _ _ c.first_mistyped.ensures }
 
 pub returns-in-13 : goal.returns-in-13
-unfolding answers fails
+unfolding answers
 returns-in-13 c = record { exact = rw c.in-13.is c.first_lacking.ensures.exact; small = placed_lacks _ _ (c.requires.known.0 (omega arith)).0 _ _ c.first_lacking.ensures.exact (search rules) }
 
 pub returns-in-14 : goal.returns-in-14
-unfolding answers fails
+unfolding answers
 returns-in-14 c = record { exact = rw c.in-14.is c.not_returning.ensures; small = placed_unless _ _ _ c.not_returning.ensures (search rules) }
 
 pub returns-in_default : goal.returns-in_default

@@ -4,8 +4,5 @@ use Prim.Native.Nat.{◌-◌, ◌≤◌}
 use lib.ListN.{length}
 use Rattle.check_file.proofs.ask.Given as goal
 
-abbrev pub invariant-loop-q : goal.invariant-loop-q
-invariant-loop-q l = (length l.table ≡ length l.initial.table) × (7 ≤ l.q) × PassedBefore l.file l.q
-
-abbrev pub decreases-loop-q : goal.decreases-loop-q
-decreases-loop-q l = l.end - l.q
+abbrev pub invariant-loop-question : goal.invariant-loop-question
+invariant-loop-question l = (length l.table ≡ length l.initial.table) × (7 ≤ l.question) × PassedBefore l.file l.question

@@ -12,11 +12,8 @@ returns-then-least-gt14 c = record { exact = sym (none_found _ _ c.if-least-gt14
 pub ask-requires : goal.ask-requires
 ask-requires c = record { laid = (c.requires.0, c.requires.1, c.file_floor-least.ensures.1, lit≤ tt); known = (c.file_floor-least.ensures.0, λ z. absurd (omega arith)) }
 
-pub returns-in-Refused : goal.returns-in-Refused
-returns-in-Refused c = record { exact = rw c.in-Refused.is at c.ask.ensures.exact; small = rw c.in-Refused.is at c.ask.ensures.small }
-
 pub check_flows-requires : goal.check_flows-requires
-check_flows-requires c = (c.requires.0, c.requires.1, c.greater.ensures.1, greater_passed _ c.file_floor-least.ensures.0 (rw c.in_default.is at c.ask.ensures.exact) c.greater.ensures.2 c.greater.ensures.3)
+check_flows-requires c = (c.requires.0, c.requires.1, c.greater.ensures.1, greater_passed _ c.file_floor-least.ensures.0 (rw c.in_ok-ask.was at c.ask.ensures.exact) c.greater.ensures.2 c.greater.ensures.3)
 
 pub returns : goal.returns
 returns c = record { exact = answers_all _ _ c.check_flows.ensures.0; small = c.check_flows.ensures.1 }

@@ -5,8 +5,8 @@ use Rattle.spec_language.specs.Statements.{statement_at}
 use Rattle.spec_language.specs.Flow.{lacks}
 use Rattle.check_flow.proofs.first_empty.Given as goal
 
-abbrev pub invariant-loop-i : goal.invariant-loop-i
-invariant-loop-i l = (lacks (statement_at l.part l.i) (has l.set.0) ≡ lacks (statement_at l.part l.initial.i) (has l.initial.set.0)) × (l.i < l.n)
+abbrev pub invariant-loop-found : goal.invariant-loop-found
+invariant-loop-found l = (lacks (statement_at l.part l.i) (has l.set.0) ≡ lacks (statement_at l.part l.initial.i) (has l.initial.set.0)) × (l.i < l.n)
 
-abbrev pub decreases-loop-i : goal.decreases-loop-i
-decreases-loop-i l = l.i
+abbrev pub decreases-loop-found : goal.decreases-loop-found
+decreases-loop-found l = l.i

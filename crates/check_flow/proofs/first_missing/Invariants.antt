@@ -1,12 +1,9 @@
 use mathlib.Core.Path.{◌≡◌}
-use Prim.Native.Nat.{◌+◌, ◌-◌, ◌≤◌}
+use Prim.Native.Nat.{◌+◌, ◌-◌}
 use Rattle.varset.specs.Sets.{has}
 use Rattle.spec_language.specs.Statements.{reads_from, reads_of}
 use Rattle.spec_language.specs.Flow.{missing}
 use Rattle.check_flow.proofs.first_missing.Given as goal
 
 abbrev pub invariant-loop-i : goal.invariant-loop-i
-invariant-loop-i l = (l.i ≤ l.e + 1) × (missing (reads_from l.part (l.e + 1 - l.i) l.i) (has l.set.0) ≡ missing (reads_of l.part l.e) (has l.set.0))
-
-abbrev pub decreases-loop-i : goal.decreases-loop-i
-decreases-loop-i l = l.e + 1 - l.i
+invariant-loop-i l = missing (reads_from l.part (l.e + 1 - l.i) l.i) (has l.set.0) ≡ missing (reads_of l.part l.e) (has l.set.0)

@@ -1,4 +1,4 @@
-use mathlib.Core.Bool.{not, false≢true, and-false}
+use mathlib.Core.Bool.{not, and-false}
 use Prim.Native.Nat.{◌%◌}
 use lib.Dec.{eqb, ltb}
 use lib.ListN.{length}
@@ -6,9 +6,6 @@ use borrow.Author.Tests.{not-true, ltb-true, lt-leb}
 use Rattle.records.proofs.Bools.{or_cases}
 use Rattle.spec_language.specs.Records.{length_ok}
 use Rattle.check_header.proofs.is_cut.Goals as goal
-
-pub returns-then-len-ge-TOO_LONG : goal.returns-then-len-ge-TOO_LONG
-returns-then-len-ge-TOO_LONG c = λ z. absurd (false≢true z)
 
 pub returns : goal.returns
 unfolding length_ok

@@ -2,11 +2,11 @@ use mathlib.Core.Path.{sym, ◌∙◌}
 use native.Mathlib.Omega.{arith}
 use lib.Dec.{lit≤}
 use borrow.Author.Tests.{not-false}
-use Rattle.check_rest.proofs.Sounds.{sound}
+use Rattle.check_rest.proofs.Sounds.{sound, sound_to_eight}
 use Rattle.check_rest.proofs.node_floor.Goals as goal
 
 pub returns-then-not-size_ok : goal.returns-then-not-size_ok
-returns-then-not-size_ok c = (sound _ _ _ _ _ 8 (λ z. absurd (omega arith)) (λ z. absurd (omega arith)) (λ z. absurd (omega arith)), lit≤ tt, lit≤ tt)
+returns-then-not-size_ok c = (sound_to_eight _ _ _ _ _, lit≤ tt, lit≤ tt)
 
 pub returns-then-body-lowest_wrong : goal.returns-then-body-lowest_wrong
 returns-then-body-lowest_wrong c = (sound _ _ _ _ _ 9 (λ z. sym c.size_ok.ensures ∙ not-false _ c.if-not-size_ok.false-raw) (λ z. absurd (omega arith)) (λ z. absurd (omega arith)), lit≤ tt, lit≤ tt)

@@ -5,15 +5,6 @@ use Rattle.check_scopes.proofs.count_decl.Goals as goal
 pub returns-then-kind_at-ne9 : goal.returns-then-kind_at-ne9
 returns-then-kind_at-ne9 c = counts_other _ _ _ c.requires.counted (λ e. c.if-kind_at-ne9.true (c.kind_at.ensures ∙ e))
 
-pub contains-requires : goal.contains-requires
-contains-requires c = rw c.b_at-x.ensures (c.requires.narrow (sym c.kind_at.ensures ∙ c.if-kind_at-ne9.false))
-
-pub insert-requires : goal.insert-requires
-insert-requires c = rw c.b_at-x.ensures (c.requires.narrow (sym c.kind_at.ensures ∙ c.if-kind_at-ne9.false))
-
-pub insert-requires-else-contains : goal.insert-requires-else-contains
-insert-requires-else-contains c = rw c.b_at-x.ensures (c.requires.narrow (sym c.kind_at.ensures ∙ c.if-kind_at-ne9.false))
-
 pub returns-then-contains : goal.returns-then-contains
 returns-then-contains c = counts_again _ _ _ _ c.requires.counted (sym c.kind_at.ensures ∙ c.if-kind_at-ne9.false) c.b_at-x.ensures _ (sym c.contains.ensures ∙ c.if-contains.true) refl c.insert.ensures
 

@@ -2,9 +2,6 @@ use mathlib.Core.Path.{sym, ◌∙◌}
 use Rattle.check_scopes.proofs.Decls.{noted_other, noted_more}
 use Rattle.check_scopes.proofs.note_decl.Goals as goal
 
-pub bounds-table-x : goal.bounds-table-x
-bounds-table-x c = rw c.b_at-x.ensures (c.requires.narrow (sym c.kind_at.ensures ∙ c.if-kind_at-eq9.true))
-
 pub returns-then-kind_at-eq9 : goal.returns-then-kind_at-eq9
 returns-then-kind_at-eq9 c = noted_more _ c.args.table.now _ _ c.requires.told (sym c.kind_at.ensures ∙ c.if-kind_at-eq9.true) c.b_at-x.ensures (rw c.b_at-x.ensures (c.requires.narrow (sym c.kind_at.ensures ∙ c.if-kind_at-eq9.true)))
 

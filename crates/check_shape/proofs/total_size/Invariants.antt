@@ -1,13 +1,10 @@
-use Prim.Native.Nat.{◌+◌, ◌*◌, ◌≤◌}
-use mathlib.Core.Path.{◌≡◌}
-use lib.ListN.{length}
+use Prim.Native.Nat.{◌+◌}
 use Rattle.records.specs.Fields.{size_at}
-use Rattle.records.specs.Children.{walk}
+use Rattle.records.specs.Children.{children}
+use Rattle.records.specs.Numbered.{left_of}
 use Rattle.spec_language.specs.Nodes.{total}
+use Rattle.check_shape.proofs.Sizes.{Sum}
 use Rattle.check_shape.proofs.total_size.Given as goal
 
-abbrev pub invariant-loop-j : goal.invariant-loop-j
-invariant-loop-j l = (12 * l.c + 12 ≤ length l.part) × (l.sum + l.j * 4294967296 ≤ l.m * 4294967296) × (l.sum + total (size_at l.part) (walk (size_at l.part) l.j l.c) ≡ total (size_at l.part) (walk (size_at l.part) l.m l.last))
-
-abbrev pub decreases-loop-j : goal.decreases-loop-j
-decreases-loop-j l = l.j
+abbrev pub invariant-loop-child : goal.invariant-loop-child
+invariant-loop-child l = Sum l.part (l.i + 1) (total (size_at l.part) (children l.part l.i)) (left_of l.child-iterator.part.now l.child-iterator.left l.child-iterator.last) l.sum

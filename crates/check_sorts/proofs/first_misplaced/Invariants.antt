@@ -1,11 +1,7 @@
-use Prim.Native.Nat.{◌-◌, ◌≤◌}
 use mathlib.Core.Path.{◌≡◌}
 use Rattle.varset.specs.Lowest.{lowest}
 use Rattle.check_sorts.proofs.LowestMisplaced.{seen}
 use Rattle.check_sorts.proofs.first_misplaced.Given as goal
 
 abbrev pub invariant-loop-q : goal.invariant-loop-q
-invariant-loop-q l = (l.q ≤ l.n) × (l.low ≡ lowest (seen l.part l.n l.q) l.n)
-
-abbrev pub decreases-loop-q : goal.decreases-loop-q
-decreases-loop-q l = l.n - l.q
+invariant-loop-q l = l.low ≡ lowest (seen l.part l.n l.q) l.n

@@ -1,15 +1,16 @@
-use mathlib.Core.Path.{sym, ◌∙◌}
-use borrow.Author.Rules.{rules}
-use Rattle.records.specs.Children.{children}
-use Rattle.check_sorts.proofs.LowestMisplaced.{child_step, child_end, pick_le}
+use native.Mathlib.Omega.{arith}
+use Rattle.check_sorts.proofs.LowestMisplaced.{lower_all, lower_more, lower_end}
+use Rattle.records.proofs.Children.{nodes_step}
 use Rattle.check_sorts.proofs.lowest_wrong.Goals as goal
 
-pub loop-j-init : goal.loop-j-init
-unfolding children
-loop-j-init c = (search rules, search rules, rw (c.kind_at-kind.ensures, c.arity_at-j.ensures.0, c.minus-c.ensures))
+pub loop-k-init : goal.loop-k-init
+loop-k-init c = lower_all _ _ _ _ (omega arith) (omega arith) cc
 
-pub loop-j-preserved : goal.loop-j-preserved
-loop-j-preserved c = (search rules, rw c.lower-low.ensures (pick_le c.wrong_sort.result _ _ c.loop-j.c c.loop-j.invariant.1), rw (c.lower-low.ensures, c.wrong_sort.ensures, c.kind_at.ensures, c.prior-c.ensures) (sym (child_step _ _ _ _ _ _ (search rules) c.loop-j.invariant.0) ∙ c.loop-j.invariant.2))
+pub kind_at-requires : goal.kind_at-requires
+kind_at-requires c = let came = nodes_step _ c.loop-k.invariant.are c.in-Some.ensures.steps in let below = came.below in omega arith
+
+pub loop-k-preserved : goal.loop-k-preserved
+loop-k-preserved c = lower_more _ _ _ _ _ _ _ _ c.loop-k.invariant c.in-Some.ensures.steps (rw (← c.kind_at-kind.ensures, ← c.kind_at.ensures, ← c.wrong_sort.ensures) c.lower-low.ensures)
 
 pub returns : goal.returns
-returns c = child_end _ _ _ _ _ _ (search rules) c.loop-j.invariant.1 ∙ c.loop-j.invariant.2
+returns c = lower_end _ _ _ _ _ c.loop-k.invariant c.in-None.ensures.steps.0

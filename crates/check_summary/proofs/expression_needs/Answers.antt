@@ -1,4 +1,3 @@
-use borrow.Author.Rules.{rules}
 use mathlib.Core.Path.{◌≡◌, ap, ◌∙◌}
 use Rattle.check_summary.proofs.Filling.{read_asks, some_size, fits_size, needs_step}
 use Rattle.check_summary.proofs.Ranges.{range_needs}
@@ -10,23 +9,8 @@ use Rattle.check_summary.proofs.expression_needs.Goals as goal
 pub own_read-set-requires : goal.own_read-set-requires
 own_read-set-requires c = read_asks c.requires.part.0 c.requires.part.1
 
-pub overflow_add-i : goal.overflow_add-i
-overflow_add-i c = search (rules, (read_asks c.requires.part.0 c.requires.part.1).0)
-
-pub size_at-requires : goal.size_at-requires
-size_at-requires c = (read_asks c.requires.part.0 c.requires.part.1).0
-
 pub loop-low-init : goal.loop-low-init
 loop-low-init c = (omega (arith, c.minus-end.ensures, c.size_at.ensures, some_size c.requires.part.0 c.requires.part.1), omega arith, c.own_read-set.ensures)
-
-pub overflow_sub-c : goal.overflow_sub-c
-overflow_sub-c c = omega (arith, c.loop-low-test.true)
-
-pub needs_at-needs-requires : goal.needs_at-needs-requires
-needs_at-needs-requires c = omega (arith, c.loop-low-test.true, c.loop-low.invariant.1, c.requires.part.1, c.requires.table.1)
-
-pub size_at-requires-in-loop-low : goal.size_at-requires-in-loop-low
-size_at-requires-in-loop-low c = omega (arith, c.loop-low-test.true, c.loop-low.invariant.1, c.requires.part.1, c.requires.part.0.inside)
 
 pub loop-low-smaller : goal.loop-low-smaller
 loop-low-smaller c = let y = some_size c.requires.part.0 {i = c.loop-low.low - 1} (omega (arith, c.loop-low.invariant.1, c.requires.part.1)) in
@@ -35,7 +19,7 @@ loop-low-smaller c = let y = some_size c.requires.part.0 {i = c.loop-low.low - 1
 pub loop-low-preserved : goal.loop-low-preserved
 loop-low-preserved c = let e = c.minus-end.ensures ∙ ap (λ (z : ℕ). c.args.i + 1 - z) c.size_at.ensures.0 in
     let v = c.minus-low.ensures ∙ ap (λ (z : ℕ). c.loop-low.low - z) c.size_at-in-loop-low.ensures.0 in
-    rw e (needs_step c.requires.part.0 c.requires.part.1 c.requires.part.2 c.requires.table.0 (rw e at c.loop-low-test.true) c.loop-low.invariant.1 c.loop-low.invariant.2 c.needs_at-needs.ensures c.union-set.ensures v)
+    rw e (needs_step c.requires.part.0 c.requires.part.1 c.requires.part.2 c.requires.table.0 (rw e at c.loop-low-test.true) c.loop-low.invariant.1 c.loop-low.invariant.2 c.needs_at.ensures c.union-set.ensures v)
 
 pub returns : goal.returns
 returns c = let e = c.minus-end.ensures ∙ ap (λ (z : ℕ). c.args.i + 1 - z) c.size_at.ensures.0 in

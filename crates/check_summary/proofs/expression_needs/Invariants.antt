@@ -1,4 +1,4 @@
-use Prim.Native.Nat.{◌+◌, ◌-◌, ◌≤◌}
+use Prim.Native.Nat.{◌+◌, ◌≤◌}
 use Rattle.check_summary.specs.Tables.{Range}
 use Rattle.check_summary.proofs.expression_needs.Given as goal
 

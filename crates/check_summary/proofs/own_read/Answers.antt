@@ -2,9 +2,6 @@ use Rattle.check_summary.proofs.Ranges.{none_read, one_read}
 use mathlib.Core.Path.{sym, ◌∙◌}
 use Rattle.check_summary.proofs.own_read.Goals as goal
 
-pub insert-requires : goal.insert-requires
-insert-requires c = rw c.b_at.ensures (c.requires.1 (sym c.kind_at.ensures ∙ c.if-kind_at-eq2.true))
-
 pub returns-then-kind_at-eq2 : goal.returns-then-kind_at-eq2
 returns-then-kind_at-eq2 c = one_read _ _ _ (sym c.kind_at.ensures ∙ c.if-kind_at-eq2.true) (c.insert.ensures ∙ rw (c.empty.ensures, c.b_at.ensures))
 

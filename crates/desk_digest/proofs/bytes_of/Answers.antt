@@ -1,14 +1,18 @@
-use Rattle.std.proofs.Common.{◌≡◌, ℕ, List, ap, ◌∙◌}
-use Rattle.words.specs.Blocks.{puts}
-use Rattle.desk_digest.specs.Padding.{big_endian}
+use Rattle.std.proofs.Common.{◌≡◌, sym, refl, ap, ◌∙◌, arith, rules}
+use Rattle.std.proofs.lemmas.List.{take_all}
+use Rattle.std.proofs.lemmas.Slice.{overwrites}
 use Rattle.desk_digest.specs.Sha256.{bytes_of}
+use Rattle.desk_digest.proofs.Rounds.{bytes_more}
 use Rattle.desk_digest.proofs.bytes_of.Goals as goal
 
--- a word put on a list that is known
+pub loop-i-init : goal.loop-i-init
+unfolding bytes_of
+loop-i-init c = (refl, refl)
 
-on : {o p l : List ℕ} (at w : ℕ) → p ≡ puts o at 0 (big_endian 4 w) → o ≡ l → p ≡ puts l at 0 (big_endian 4 w)
-on at w e k = e ∙ ap (λ (x : List ℕ). puts x at 0 (big_endian 4 w)) k
+pub loop-i-preserved : goal.loop-i-preserved
+loop-i-preserved c = (search (rules, overwrites), bytes_more _ _ _ _ _ (search rules) (omega arith) c.loop-i.invariant.1 (c.copy_from_slice.ensures.after ∙ c.to_be_bytes.ensures))
 
 pub returns : goal.returns
-unfolding bytes_of big_endian
-returns c = on 28 _ c.put_word-8.ensures (on 24 _ c.put_word-7.ensures (on 20 _ c.put_word-6.ensures (on 16 _ c.put_word-5.ensures (on 12 _ c.put_word-4.ensures (on 8 _ c.put_word-3.ensures (on 4 _ c.put_word-2.ensures c.put_word.ensures))))))
+returns c =
+    let done : c.loop-i.i ≡ 8 = omega arith in
+    sym (take_all 32 c.loop-i.out (omega arith)) ∙ (rw done at c.loop-i.invariant.1) ∙ ap bytes_of (take_all 8 c.args.s (search rules))

@@ -1,6 +1,12 @@
+use Rattle.std.proofs.Common.{rules}
 use Rattle.desk_digest.specs.Words.{shr}
+use Rattle.desk_digest.proofs.Words.{turned_right}
 use Rattle.desk_digest.proofs.rotations_shift.Goals as goal
 
 pub returns : goal.returns
 unfolding shr
-returns c = rw (c.rotr.ensures, c.rotr-2.ensures)
+returns c =
+    rw (
+      turned_right _ _ _ (search rules) (search rules) c.rotate_right.ensures,
+      turned_right _ _ _ (search rules) (search rules) c.rotate_right-2.ensures,
+    )

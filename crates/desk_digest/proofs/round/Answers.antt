@@ -1,6 +1,7 @@
-use Rattle.desk_digest.specs.Sha256.{round, turned}
+use Rattle.desk_digest.specs.Words.{◌⊞◌, Σ0, Σ1}
+use Rattle.desk_digest.specs.Sha256.{T1, T2, turned, round}
 use Rattle.desk_digest.proofs.round.Goals as goal
 
 pub returns : goal.returns
-unfolding round turned
-returns c = rw (c.plus.ensures, c.plus-2.ensures, c.first_sum-t1.ensures, c.second_sum-t2.ensures)
+unfolding round turned T1 T2 Σ0 Σ1 ◌⊞◌
+returns c = rw (c.rotations.ensures, c.ch.ensures, c.rotations-2.ensures, c.maj.ensures)

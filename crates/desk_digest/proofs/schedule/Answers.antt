@@ -1,4 +1,4 @@
-use Rattle.std.proofs.Common.{◌≡◌, sym, refl, ap, ◌∙◌, arith, length-set, take_all, rules}
+use Rattle.std.proofs.Common.{◌≡◌, sym, refl, ap, ◌∙◌, arith, length-set, take_all}
 use Rattle.desk_digest.specs.Padding.{padded}
 use Rattle.desk_digest.specs.Sha256.{schedule}
 use Rattle.desk_digest.proofs.Schedules.{filled}
@@ -6,10 +6,10 @@ use Rattle.desk_digest.proofs.schedule.Goals as goal
 
 pub loop-t-init : goal.loop-t-init
 unfolding schedule
-loop-t-init c = (search rules, refl, refl)
+loop-t-init c = (refl, refl)
 
 pub loop-t-preserved : goal.loop-t-preserved
-loop-t-preserved c = let b = c.loop-t in (search rules, simp length-set b.invariant.1, filled _ _ _ _ _ (omega (arith, b.invariant.1)) c.schedule_word-x.ensures b.invariant.2)
+loop-t-preserved c = let b = c.loop-t in (simp length-set b.invariant.0, filled _ _ _ _ _ (omega (arith, b.invariant.0)) c.schedule_word.ensures b.invariant.1)
 
 pub returns : goal.returns
-returns c = let b = c.loop-t in let e : b.t ≡ 64 = omega arith in sym (take_all b.t b.w (omega (arith, b.invariant.1))) ∙ b.invariant.2 ∙ ap (schedule (padded c.args.bytes.now) c.args.at) e
+returns c = let b = c.loop-t in let e : b.t ≡ 64 = omega arith in sym (take_all b.t b.w (omega (arith, b.invariant.0))) ∙ b.invariant.1 ∙ ap (schedule (padded c.args.bytes.now) c.args.at) e

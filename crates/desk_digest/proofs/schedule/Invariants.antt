@@ -1,10 +1,7 @@
-use Rattle.std.proofs.Common.{◌≡◌, ◌-◌, ◌≤◌, length, take}
+use Rattle.std.proofs.Common.{◌≡◌, length, take}
 use Rattle.desk_digest.specs.Padding.{padded}
 use Rattle.desk_digest.specs.Sha256.{schedule}
 use Rattle.desk_digest.proofs.schedule.Given as goal
 
 abbrev pub invariant-loop-t : goal.invariant-loop-t
-invariant-loop-t l = (l.t ≤ 64) × (length l.w ≡ 64) × (take l.t l.w ≡ schedule (padded l.bytes) l.at l.t)
-
-abbrev pub decreases-loop-t : goal.decreases-loop-t
-decreases-loop-t l = 64 - l.t
+invariant-loop-t l = (length l.w ≡ 64) × (take l.t l.w ≡ schedule (padded l.bytes) l.at l.t)

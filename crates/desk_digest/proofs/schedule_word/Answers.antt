@@ -10,6 +10,6 @@ pub returns-then-t-lt16 : goal.returns-then-t-lt16
 unfolding schedule_word
 returns-then-t-lt16 c = rw (lt-ltb _ _ c.if-t-lt16.true) c.word_at.ensures
 
-pub returns : goal.returns
+pub returns-else-t-lt16 : goal.returns-else-t-lt16
 unfolding schedule_word
-returns c = rw (le-ltb _ _ c.if-t-lt16.false) c.mixed.ensures
+returns-else-t-lt16 c = rw (le-ltb _ _ c.if-t-lt16.false) c.mixed.ensures

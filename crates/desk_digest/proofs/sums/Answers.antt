@@ -1,6 +1,6 @@
-use Rattle.desk_digest.specs.Sha256.{sums}
+use Rattle.std.proofs.Common.{rules, arith}
+use Rattle.desk_digest.proofs.Rounds.{summed}
 use Rattle.desk_digest.proofs.sums.Goals as goal
 
 pub returns : goal.returns
-unfolding sums
-returns c = rw (c.plus.ensures, c.plus-2.ensures, c.plus-3.ensures, c.plus-4.ensures, c.plus-5.ensures, c.plus-6.ensures, c.plus-7.ensures, c.plus-8.ensures)
+returns c = summed _ _ _ (search rules) (search rules) (search rules) (λ k d h. c.loop-i.invariant.1 k d (omega arith))

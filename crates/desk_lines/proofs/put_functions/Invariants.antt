@@ -1,8 +1,5 @@
-use Rattle.std.proofs.Common.{◌≡◌, ◌-◌, length}
+use Rattle.texts.specs.Room.{Ends}
 use Rattle.desk_lines.proofs.put_functions.Given as goal
 
-abbrev pub invariant-loop-f : goal.invariant-loop-f
-invariant-loop-f l = (length l.out ≡ length l.initial.out)
-
-abbrev pub decreases-loop-f : goal.decreases-loop-f
-decreases-loop-f l = l.functions - l.f
+abbrev pub invariant-loop-function : goal.invariant-loop-function
+invariant-loop-function l = Ends l.initial.out.bytes.now l.initial.out.used 10 → Ends l.out.bytes.now l.out.used 10

@@ -9,4 +9,4 @@ returns-then-kind_at-ne10 c = rw (← c.kind_at.ensures, ne_eqb _ 10 c.if-kind_a
 
 pub returns : goal.returns
 unfolding apart prior last
-returns c = rw (c.in_tree-2.ensures, c.in_tree.ensures, c.prior.ensures, c.minus-second.ensures, ← c.kind_at.ensures, eq-eqb _ 10 c.if-kind_at-ne10.false)
+returns c = rw (c.in_tree-2.ensures, c.in_tree.ensures, c.prior.ensures, c.saturating_sub-second.ensures, ← c.kind_at.ensures, eq-eqb _ 10 c.if-kind_at-ne10.false)

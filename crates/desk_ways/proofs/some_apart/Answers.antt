@@ -1,19 +1,12 @@
-use mathlib.Core.Path.{sym, ◌∙◌}
-use Prim.Native.Nat.{◌-◌}
-use native.Mathlib.Omega.{arith}
-use borrow.Author.Count.{below_none, below_more}
-use borrow.Author.Rules.{rules}
-use Rattle.desk_ways.proofs.Searches.{some_at, some-none}
+use Rattle.std.proofs.Common.{◌∙◌, refl, arith, rules, tests}
+use Rattle.std.proofs.lemmas.Iterator.{YieldsList-from_range}
+use Rattle.std.proofs.lemmas.Iterator.Search.{any_from_yields_List}
+use Rattle.desk_ways.specs.Ways.{apart}
+use Rattle.desk_ways.proofs.Searches.{some_of}
 use Rattle.desk_ways.proofs.some_apart.Goals as goal
 
-pub loop-j-init : goal.loop-j-init
-loop-j-init c = (search rules, below_none _)
-
-pub returns-then-is_apart : goal.returns-then-is_apart
-returns-then-is_apart c = sym (some_at _ _ _ (search rules) (sym c.is_apart.ensures ∙ c.if-is_apart.true))
-
-pub loop-j-preserved : goal.loop-j-preserved
-loop-j-preserved c = (search rules, below_more _ _ c.loop-j.invariant.1 (sym c.is_apart.ensures ∙ c.if-is_apart.false))
-
 pub returns : goal.returns
-returns c = sym (some-none _ _ (λ k l. c.loop-j.invariant.1 k (omega arith)))
+returns c =
+    let p = apart c.args.part.bytes.now c.args.k c.args.i in
+    any_from_yields_List p _ _ c.any.result c.any.ensures.ran (YieldsList-from_range 0 c.args.part.n c.args.part.n refl (omega arith)) (λ x b q k. search (rules, tests))
+    ∙ some_of p c.args.part.n

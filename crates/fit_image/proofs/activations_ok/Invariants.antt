@@ -6,6 +6,3 @@ use Rattle.fit_image.proofs.activations_ok.Given as goal
 
 abbrev pub invariant-loop-i : goal.invariant-loop-i
 invariant-loop-i l = (l.i ≤ l.n) × (passing 136 activation_ok l.m 128 l.n ≡ passing 136 activation_ok l.m 128 l.i)
-
-abbrev pub decreases-loop-i : goal.decreases-loop-i
-decreases-loop-i l = l.i

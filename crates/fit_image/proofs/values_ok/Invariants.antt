@@ -6,6 +6,3 @@ use Rattle.fit_image.proofs.values_ok.Given as goal
 
 abbrev pub invariant-loop-i : goal.invariant-loop-i
 invariant-loop-i l = (l.i ≤ l.n) × (values_ok (l.n - l.i) (drop (2 * l.i) l.s) ≡ values_ok l.n l.s)
-
-abbrev pub decreases-loop-i : goal.decreases-loop-i
-decreases-loop-i l = l.n - l.i

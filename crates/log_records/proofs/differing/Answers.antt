@@ -1,5 +1,4 @@
 use mathlib.Core.Path.{ap}
-use Prim.Native.Nat.{◌-◌}
 use native.Mathlib.Omega.{arith}
 use lib.ListN.{length}
 use borrow.Author.Rules.{rules}
@@ -9,14 +8,14 @@ use Rattle.log_records.proofs.differing.Goals.{then-a-i, else-a-i}
 use Rattle.log_records.proofs.differing.Goals as goal
 
 pub loop-i-init : goal.loop-i-init
-loop-i-init c = (search rules, search rules, search rules)
+loop-i-init c = (search rules, search rules)
 
 pub loop-i-preserved : goal.loop-i-preserved
 loop-i-preserved c = let l = c.loop-i in
     elim c.if-a-i.branch [
-      | then-a-i w ↦ (search rules, omega (arith, w.k-is, l.invariant.1), count_other c.args.a.now c.args.b.now l.k c.if-a-i.k l.i _ c.loop-i-test.true c.requires.0 w.if-a-i.true w.k-is l.invariant.2)
-      | else-a-i w ↦ (search rules, omega (arith, w.k-is, l.invariant.1), count_same c.args.a.now c.args.b.now l.k c.if-a-i.k l.i _ c.loop-i-test.true c.requires.0 w.if-a-i.false w.k-is l.invariant.2)
+      | then-a-i w ↦ (omega (arith, w.k-is, l.invariant.0), count_other c.args.a.now c.args.b.now l.k c.if-a-i.k l.i _ c.loop-i-test.true c.requires.0 w.if-a-i.true w.k-is l.invariant.1)
+      | else-a-i w ↦ (omega (arith, w.k-is, l.invariant.0), count_same c.args.a.now c.args.b.now l.k c.if-a-i.k l.i _ c.loop-i-test.true c.requires.0 w.if-a-i.false w.k-is l.invariant.1)
     ]
 
 pub returns : goal.returns
-returns c = let l = c.loop-i in let z = ap length (none_more c.args.a.now c.args.b.now l.i l.i c.loop-i-test.false) in ((λ i. omega (arith, z, l.invariant.2, count_anywhere c.args.a.now c.args.b.now 0 i)), omega (arith, c.requires.1, l.invariant.0, l.invariant.1))
+returns c = let l = c.loop-i in let z = ap length (none_more c.args.a.now c.args.b.now l.i l.i c.loop-i-test.false) in ((λ i. omega (arith, z, l.invariant.1, count_anywhere c.args.a.now c.args.b.now 0 i)), omega (arith, c.requires.1, l.invariant.0))

@@ -1,5 +1,4 @@
 use mathlib.Core.Path.{◌∙◌}
-use Prim.Native.Nat.{◌-◌}
 use Rattle.log_records.proofs.Puts.{put_none, same_put, put_room, other_put, put_all}
 use Rattle.log_records.proofs.put_each.Goals.{then-old-new, else-old-new}
 use Rattle.log_records.proofs.put_each.Goals as goal

@@ -1,5 +1,4 @@
 use mathlib.Core.Path.{refl}
-use Prim.Native.Nat.{◌-◌}
 use Rattle.log_records.proofs.Puts.{lay_none, lay_one, lay_all}
 use Rattle.log_records.proofs.put_words.Goals as goal
 

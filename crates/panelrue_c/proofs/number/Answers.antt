@@ -4,12 +4,12 @@ use Rattle.panelrue_c.specs.Packed.{packed}
 use Rattle.panelrue_c.proofs.number.Goals as goal
 
 pub pack-requires : goal.pack-requires
-pack-requires c = rw c.in-Refused.is at c.requires
+pack-requires c = rw c.in-Err.is at c.requires
 
-pub returns-in-Accepted : goal.returns-in-Accepted
+pub returns-in-Ok : goal.returns-in-Ok
 unfolding packed says
-returns-in-Accepted c = rw c.in-Accepted.is
+returns-in-Ok c = rw c.in-Ok.is
 
-pub returns-in-Refused : goal.returns-in-Refused
+pub returns-in-Err : goal.returns-in-Err
 unfolding packed says
-returns-in-Refused c = c.pack.ensures ∙ rw c.in-Refused.is
+returns-in-Err c = c.pack.ensures ∙ rw c.in-Err.is

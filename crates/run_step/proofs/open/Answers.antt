@@ -30,7 +30,7 @@ returns-in-2 c α f η K A R e t pass part fit = let k = sym c.kind_at-kind.ensu
     let x = reads_variable _ pass α f η K A _ fit (rw part at k) in
     let y : c.b_at-x.result < length η = rw (c.b_at-x.ensures, part) x in
     variable_done _ _ _ _ _ R α f η K A _ _ k (c.variable-v.ensures f η K A (R α) e t.callers y (variables_few _ pass _ α f η K A fit) ∙ rw c.b_at-x.ensures)
-    (on_is _ _ _ _ _ R α _ f η η K A c.at_hand.ensures refl e t c.requires.0.1 c.requires.0.2)
+    (on_is _ _ _ _ _ R α _ f η η K A c.from.ensures refl e t c.requires.0.1 c.requires.0.2)
 
 pub returns-in-3 : goal.returns-in-3
 returns-in-3 c α f η K A R e t pass part fit = let k = sym c.kind_at-kind.ensures ∙ c.in-3.is in

@@ -1,12 +1,8 @@
 use mathlib.Core.Path.{refl}
 use Rattle.state_words.specs.Meaning.{slot_at}
 use Rattle.spec_image.proofs.Operands.{next_operand}
-use lib.ListN.{length-set}
 use native.Mathlib.Omega.{arith}
 use Rattle.state_stack.proofs.gain.Goals as goal
-
-pub bounds-m-at-2 : goal.bounds-m-at-2
-bounds-m-at-2 c = simp length-set (omega (arith, c.put_slot.auto.m))
 
 pub returns : goal.returns
 unfolding slot_at

@@ -1,21 +1,18 @@
-use Rattle.desk_digest.proofs.Paddings.{padded_length, at_message, at_one, at_zero, at_length}
-use Rattle.std.proofs.Common.{◌∙◌, arith, rules}
+use Rattle.desk_digest.proofs.Paddings.{padded_length, at_message, at_one, at_zero, at_length, length_bytes_low}
+use Rattle.std.proofs.Common.{arith}
 use Rattle.desk_digest.proofs.padding.padded_byte.Goals as goal
 
-pub overflow_cast-result : goal.overflow_cast-result
-overflow_cast-result c = record { fits = omega (arith, c.shared_slice_known-then-i-n-1.given c.args.i) }
-
 pub returns-then-i-n : goal.returns-then-i-n
-returns-then-i-n c = (at_message _ _ c.if-i-n.true, omega (arith, c.shared_slice_known-then-i-n-1.given c.args.i))
+returns-then-i-n c = at_message _ _ c.if-i-n.true
 
 pub returns-then-i-n-2 : goal.returns-then-i-n-2
-returns-then-i-n-2 c = (at_one _ _ c.if-i-n-2.true, search rules)
+returns-then-i-n-2 c = at_one _ _ c.if-i-n-2.true
 
 pub returns-then-i-last : goal.returns-then-i-last
-returns-then-i-last c = (at_zero _ _ (omega arith) c.if-i-last.true, search rules)
+returns-then-i-last c = at_zero _ _ (omega arith) c.if-i-last.true
 
-pub length_byte-requires : goal.length_byte-requires
-length_byte-requires c = let l = padded_length c.args.bytes.now in omega arith
+pub bounds-to_be_bytes-i : goal.bounds-to_be_bytes-i
+bounds-to_be_bytes-i c = let l = padded_length c.args.bytes.now in omega arith
 
 pub returns : goal.returns
-returns c = (c.length_byte.ensures.0 ∙ at_length _ _ (omega arith) c.if-i-last.false, c.length_byte.ensures.1)
+returns c = rw (c.to_be_bytes.ensures, length_bytes_low) (at_length _ _ (omega arith) c.if-i-last.false)

@@ -1,5 +1,5 @@
 use mathlib.Core.Path.{◌≡◌}
-use Prim.Native.Nat.{◌+◌, ◌*◌, ◌≤◌}
+use Prim.Native.Nat.{◌+◌, ◌*◌}
 use Rattle.words.specs.Stacks.{entries, chain}
 use Rattle.spec_machine.specs.File.{program_of}
 use Rattle.spec_image.specs.Decode.{frame_of}
@@ -8,7 +8,4 @@ use Rattle.fit_frames.specs.Meaning.{incoming_is}
 use Rattle.fit_frames.proofs.descent.frames_fit.Given as goal
 
 abbrev pub invariant-loop-i : goal.invariant-loop-i
-invariant-loop-i l = (l.i ≤ l.k) × (chain (frame_fits (program_of l.file) l.f) (hands_on (program_of l.file) l.f) ends (incoming_is l.initial.down) (entries 20 frame_of l.m (4480 + l.low * 20) l.k) ≡ chain (frame_fits (program_of l.file) l.f) (hands_on (program_of l.file) l.f) ends (incoming_is l.down) (entries 20 frame_of l.m (4480 + l.low * 20) l.i))
-
-abbrev pub decreases-loop-i : goal.decreases-loop-i
-decreases-loop-i l = l.i
+invariant-loop-i l = chain (frame_fits (program_of l.known.part.file.now) l.known.part.function) (hands_on (program_of l.known.part.file.now) l.known.part.function) ends (incoming_is l.initial.down) (entries 20 frame_of l.memory (4480 + l.low * 20) l.k) ≡ chain (frame_fits (program_of l.known.part.file.now) l.known.part.function) (hands_on (program_of l.known.part.file.now) l.known.part.function) ends (incoming_is l.down) (entries 20 frame_of l.memory (4480 + l.low * 20) l.i)

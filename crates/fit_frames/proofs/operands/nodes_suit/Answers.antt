@@ -1,21 +1,15 @@
-use mathlib.Core.Path.{refl, sym, ◌∙◌}
-use Prim.Native.Nat.{◌-◌}
-use borrow.Author.Tests.{not-true, not-false}
+use mathlib.Core.Path.{sym, ◌∙◌}
 use Rattle.varset.specs.Sets.{has}
 use Rattle.spec_machine.specs.File.{program_of}
 use Rattle.spec_language.specs.Types.{mask_type}
 use Rattle.fit_frames.proofs.FrameSlots.{nodes_more, nodes_less, nodes_end}
-use borrow.Author.Rules.{rules}
 use Rattle.fit_frames.proofs.operands.nodes_suit.Goals as goal
 
-pub loop-j-init : goal.loop-j-init
-loop-j-init c = (search rules, refl)
-
 pub returns-then-not-node_suits : goal.returns-then-not-node_suits
-returns-then-not-node_suits c = let l = c.loop-j in let a = c.args in sym (l.invariant.1 ∙ nodes_less (program_of a.file.now) a.f (has a.set.0) a.m.now a.i a.end l.j (mask_type a.bools a.arrays a.grids) c.loop-j-test.true c.requires.room.3 (rw (c.mask_type-want.ensures, c.frame_word.ensures) at (sym c.node_suits.ensures ∙ not-true _ c.if-not-node_suits.true-raw)))
+returns-then-not-node_suits c = let l = c.loop-j in let a = c.args in sym (l.invariant ∙ nodes_less (program_of a.known.now.part.file.now) a.known.now.part.function (has a.set.0) a.frame.now.memory.now a.frame.now.place a.end l.j (mask_type a.masks.bools a.masks.arrays a.masks.grids) c.loop-j-test.true c.requires.1 (rw (c.wanted.ensures, c.word.ensures) at (sym c.if-not-node_suits.ensures)))
 
 pub loop-j-preserved : goal.loop-j-preserved
-loop-j-preserved c = let l = c.loop-j in let a = c.args in (search rules, l.invariant.1 ∙ nodes_more (program_of a.file.now) a.f (has a.set.0) a.m.now a.i a.end l.j (mask_type a.bools a.arrays a.grids) c.loop-j-test.true c.requires.room.3 (rw (c.mask_type-want.ensures, c.frame_word.ensures) at (sym c.node_suits.ensures ∙ not-false _ c.if-not-node_suits.false-raw)))
+loop-j-preserved c = let l = c.loop-j in let a = c.args in l.invariant ∙ nodes_more (program_of a.known.now.part.file.now) a.known.now.part.function (has a.set.0) a.frame.now.memory.now a.frame.now.place a.end l.j (mask_type a.masks.bools a.masks.arrays a.masks.grids) c.loop-j-test.true c.requires.1 (rw (c.wanted.ensures, c.word.ensures) at (sym c.if-not-node_suits.ensures))
 
 pub returns : goal.returns
-returns c = let l = c.loop-j in let a = c.args in sym (l.invariant.1 ∙ nodes_end (program_of a.file.now) a.f (has a.set.0) a.m.now a.i a.end l.j (mask_type a.bools a.arrays a.grids) c.loop-j-test.false)
+returns c = let l = c.loop-j in let a = c.args in sym (l.invariant ∙ nodes_end (program_of a.known.now.part.file.now) a.known.now.part.function (has a.set.0) a.frame.now.memory.now a.frame.now.place a.end l.j (mask_type a.masks.bools a.masks.arrays a.masks.grids) c.loop-j-test.false)

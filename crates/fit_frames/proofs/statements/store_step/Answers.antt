@@ -1,21 +1,18 @@
 use mathlib.Core.Path.{◌∙◌}
+use borrow.Author.Tests.{lt-ltb, le-ltb}
 use native.Mathlib.Omega.{arith}
-use borrow.Author.Tests.{not-true, not-false, lt-ltb, le-ltb}
-use Rattle.fit_frames.proofs.Steps.{store_none, store_unknown, store_law}
 use Rattle.fit_frames.proofs.Files.{laid, record_in_lem, has_var_lem}
+use Rattle.fit_frames.proofs.Steps.{store_unknown, store_law}
 use Rattle.fit_frames.proofs.statements.store_step.Goals as goal
 
-pub returns-then-not-d : goal.returns-then-not-d
-returns-then-not-d c = store_none c.refused.ensures (not-true _ c.if-not-d.true)
-
 pub vars_of-requires : goal.vars_of-requires
-vars_of-requires c = let a = c.args in record_in_lem a.file.now c.requires.0.passed a.f c.requires.0.known
-
-pub returns-then-wide-x : goal.returns-then-wide-x
-returns-then-wide-x c = let a = c.args in store_unknown c.refused-then-wide-x.ensures (has_var_lem a.file.now c.requires.0.passed a.f c.requires.0.known a.x ∙ le-ltb _ _ (rw (c.wide.ensures.0, c.vars_of.ensures) at c.if-wide-x.true))
+vars_of-requires c = let p = c.args.known.now.part in record_in_lem p.file.now p.known.passed p.function p.known.known
 
 pub insert-requires : goal.insert-requires
-insert-requires c = let a = c.args in omega (arith, (laid a.file.now c.requires.0.passed).vars a.f c.requires.0.known, c.wide.ensures.0, c.vars_of.ensures, c.if-wide-x.false)
+insert-requires c = let p = c.args.known.now.part in omega (arith, (laid p.file.now p.known.passed).vars p.function p.known.known, c.wide.ensures.0, c.vars_of.ensures, c.if-wide-x.false)
+
+pub returns-then-wide-x : goal.returns-then-wide-x
+returns-then-wide-x c = let p = c.args.known.now.part in store_unknown c.in_ok-kind.was (has_var_lem p.file.now p.known.passed p.function p.known.known c.args.x ∙ le-ltb _ _ (rw (c.wide.ensures.0, c.vars_of.ensures) at c.if-wide-x.true))
 
 pub returns : goal.returns
-returns c = let a = c.args in store_law (not-false _ c.if-not-d.false) (has_var_lem a.file.now c.requires.0.passed a.f c.requires.0.known a.x ∙ lt-ltb _ _ (rw (c.wide.ensures.0, c.vars_of.ensures) at c.if-wide-x.false)) (rw c.variable_type.ensures) (c.bare-down.ensures ∙ rw c.insert.ensures)
+returns c = let p = c.args.known.now.part in store_law c.in_ok-kind.was (has_var_lem p.file.now p.known.passed p.function p.known.known c.args.x ∙ lt-ltb _ _ (rw (c.wide.ensures.0, c.vars_of.ensures) at c.if-wide-x.false)) (c.if-kind-variable_type.false ∙ c.variable_type.ensures) (c.bare.ensures ∙ rw c.insert.ensures)

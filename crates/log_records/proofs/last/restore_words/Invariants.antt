@@ -1,12 +1,9 @@
 use mathlib.Core.Path.{◌≡◌}
 use mathlib.Core.List.{◌++◌}
-use Prim.Native.Nat.{◌+◌, ◌*◌, ◌-◌, ◌≤◌}
+use Prim.Native.Nat.{◌+◌, ◌*◌, ◌-◌}
 use lib.ListN.{length, take}
 use Rattle.spec_log.specs.Records.{words_at}
 use Rattle.log_records.proofs.last.restore_words.Given as goal
 
 abbrev pub invariant-loop-i : goal.invariant-loop-i
-invariant-loop-i l = (l.i ≤ length l.initial.m) × (length l.m ≡ length l.initial.m) × (take l.i l.m ++ words_at l.log (l.at + 4 * l.i) (length l.initial.m - l.i) ≡ words_at l.log l.at (length l.initial.m))
-
-abbrev pub decreases-loop-i : goal.decreases-loop-i
-decreases-loop-i l = length l.initial.m - l.i
+invariant-loop-i l = (length l.m ≡ length l.initial.m) × (take l.i l.m ++ words_at l.log (l.at + 4 * l.i) (length l.initial.m - l.i) ≡ words_at l.log l.at (length l.initial.m))

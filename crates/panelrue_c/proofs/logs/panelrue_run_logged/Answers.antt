@@ -3,12 +3,12 @@ use Rattle.panelrue_c.specs.HostLogs.{log_number, log_words}
 use Rattle.panelrue_c.proofs.logs.panelrue_run_logged.Goals as goal
 
 pub pack-requires : goal.pack-requires
-pack-requires c = rw c.in-Refused.is at c.run_logged.ensures.small
+pack-requires c = rw c.in-Err.is at c.run_logged.ensures.small
 
-pub returns-in-Stopped : goal.returns-in-Stopped
+pub returns-in-Ok : goal.returns-in-Ok
 unfolding log_number
-returns-in-Stopped c = let e = sym c.run_logged.ensures.answer ∙ c.in-Stopped.is in record { number = rw e; memory = c.run_logged.ensures.memory; log = c.run_logged.ensures.log; told = rw e c.tell_log.ensures }
+returns-in-Ok c = let e = sym c.run_logged.ensures.answer ∙ c.in-Ok.is in record { number = rw e; memory = c.run_logged.ensures.memory; log = c.run_logged.ensures.log; told = rw e c.tell_log.ensures }
 
-pub returns-in-Refused : goal.returns-in-Refused
+pub returns-in-Err : goal.returns-in-Err
 unfolding log_number log_words
-returns-in-Refused c = let e = sym c.run_logged.ensures.answer ∙ c.in-Refused.is in record { number = rw e c.pack.ensures; memory = c.run_logged.ensures.memory; log = c.run_logged.ensures.log; told = rw e }
+returns-in-Err c = let e = sym c.run_logged.ensures.answer ∙ c.in-Err.is in record { number = rw e c.pack.ensures; memory = c.run_logged.ensures.memory; log = c.run_logged.ensures.log; told = rw e }

@@ -27,7 +27,7 @@ returns c α f η J g θ L A R e t = let a = left_callers t (c.args.h.callers - 
     let k = c.caller_frames-frames.ensures f η J g θ L A (R α) e a in
     let u = left_under t in
     let known : g < functions c.args.file.now = rw (sym r ∙ o) c.requires.caller.known in
-    on_is _ _ _ _ _ R α _ _ _ θ L A c.at_hand-c.ensures refl
+    on_is _ _ _ _ _ R α _ _ _ θ L A c.from-c.ensures refl
     (c.leave.ensures f η J g θ L A (R α) e a (omega (arith, u, length-append L (saved_frames A))) t.frames)
     (left_describes _ _ f J g θ L A _ _ _ _ _ _ t r (start_at _ c.args.starts.now g _ c.requires.bounds.2 known r) (c.count_of.ensures.0 ∙ rw r) (omega (arith, c.requires.bounds.1)) k refl)
     (search rules) (omega (arith, k, u, c.requires.bounds.0.2))

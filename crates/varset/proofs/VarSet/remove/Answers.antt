@@ -1,6 +1,6 @@
-use Rattle.varset.proofs.Laws.{without_is}
-use borrow.Author.Rules.{rules}
+use Rattle.std.proofs.Common.{arith, rules}
+use Rattle.varset.proofs.Complements.{without_not}
 use Rattle.varset.proofs.VarSet.remove.Goals as goal
 
 pub returns : goal.returns
-returns c = without_is 64 _ _ (search rules)
+returns c = without_not _ _ (omega arith) (search rules)

@@ -1,0 +1,4 @@
+use Rattle.check_pass.proofs.nodes.Node.effect_of.Goals as goal
+
+pub returns : goal.returns
+returns c = λ l. c.args.self.now.at.filled.at _ l

@@ -1,7 +1,0 @@
-use Rattle.spec_language.specs.Flow.{declares, leaves}
-use mathlib.Core.Path.{◌∙◌}
-use Rattle.desk_ways.proofs.flow.in_branches.Goals as goal
-
-pub returns : goal.returns
-unfolding declares leaves
-returns c = λ e s t d p q. record { left = c.meet.ensures ∙ rw (p.left, q.left); declared = c.union.ensures ∙ rw (p.declared, q.declared) }
