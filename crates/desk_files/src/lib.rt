@@ -4,7 +4,7 @@
 ghost use Rattle.std.specs.Prelude.{◌≤◌, length};
 ghost use Rattle.desk_files.specs.Kept.{Inside};
 ghost use Rattle.desk_files.specs.Names.{Plain};
-ghost use Rattle.texts.specs.Room.{EndsInside};
+ghost use Rattle.texts.specs.Room.{EndsInside, Lent};
 
 use std::fs::File;
 use std::io;
@@ -15,10 +15,10 @@ use texts::Text;
 // The file that the name of one dash is read from: descriptor 3.
 const DASH: &str = "/proc/self/fd/3";
 
-// What kept a file from being read, by the number that the system gives it; it is never below 0.
+// What kept a file from being read, by the number that the system gives it.
 #[derive(Clone, Copy, PartialEq, Eq)]
 pub struct SystemError {
-    pub number: u32,
+    pub number: i32,
 }
 
 // The errors that are named here: no such file, a bad descriptor, an argument that is not valid, a name that is too long, and one that
@@ -37,9 +37,7 @@ const NO_TEXT: SystemError = SystemError { number: 84 };
 impl From<io::Error> for SystemError {
     fn from(error: io::Error) -> SystemError {
         match error.raw_os_error() {
-            Some(number) => SystemError {
-                number: u32::try_from(number).unwrap_or(0),
-            },
+            Some(number) => SystemError { number },
             None => NOT_VALID,
         }
     }
@@ -92,12 +90,13 @@ pub fn content_of<R: Files>(rt: &R, name: &[u8], file: &mut [u8]) -> Result<usiz
     }
 }
 
-// Puts the system's words for an error, or its number where it is past the usual ones.
+// Puts the system's words for an error, or its number where it is past the usual ones; a number below 0 has the words of 0.
 pub fn put_error(out: &mut Text<'_>, error: SystemError)
-    ensures { EndsInside out.new.bytes.now out.new.used }
+    ensures lent { Lent out.old.bytes out.new.bytes }
+    ensures last { EndsInside out.new.bytes.now out.new.used }
 {
     match error.number {
-        0 => out.put(b"Success"),
+        i32::MIN..=0 => out.put(b"Success"),
         1 => out.put(b"Operation not permitted"),
         2 => out.put(b"No such file or directory"),
         3 => out.put(b"No such process"),

@@ -1,6 +1,6 @@
 // How many files passed, how many each question refused, and how many could not be read.
 ghost use Rattle.std.specs.Prelude.{◌≡◌, ◌+◌, ◌-◌, ◌%◌, ◌^◌, ◌<◌, ◌≤◌, length, replicate, slice_index, slice_set};
-ghost use Rattle.texts.specs.Room.{Ends};
+ghost use Rattle.texts.specs.Room.{Ends, Lent};
 
 use texts::Text;
 
@@ -66,7 +66,9 @@ impl Tally {
 }
 
 // Puts a line for each question that refused files.
-fn put_questions(tally: &Tally, out: &mut Text<'_>) {
+fn put_questions(tally: &Tally, out: &mut Text<'_>)
+    ensures lent { Lent out.old.bytes out.new.bytes }
+{
     for (i, n) in tally.refused.iter().enumerate() {
         if *n != 0 {
             out.put_numbered(b"refused by question ", i as u64 + 1);
@@ -78,7 +80,8 @@ fn put_questions(tally: &Tally, out: &mut Text<'_>) {
 
 // Puts the line with the counts of all files.
 fn put_total(tally: &Tally, out: &mut Text<'_>)
-    ensures { Ends out.new.bytes.now out.new.used 10 }
+    ensures lent { Lent out.old.bytes out.new.bytes }
+    ensures last { Ends out.new.bytes.now out.new.used 10 }
 {
     let refused = tally.all_refused();
     let files = tally
@@ -94,7 +97,8 @@ fn put_total(tally: &Tally, out: &mut Text<'_>)
 
 // Puts the lines with the counts, that of all files last.
 pub fn put_counts(tally: &Tally, out: &mut Text<'_>)
-    ensures { Ends out.new.bytes.now out.new.used 10 }
+    ensures lent { Lent out.old.bytes out.new.bytes }
+    ensures last { Ends out.new.bytes.now out.new.used 10 }
 {
     put_questions(tally, out);
     put_total(tally, out);

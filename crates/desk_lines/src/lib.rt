@@ -6,7 +6,7 @@ pub mod objects;
 pub mod strings;
 
 ghost use Rattle.std.specs.Prelude.{◌≡◌, Bool, true, false};
-ghost use Rattle.texts.specs.Room.{Ends};
+ghost use Rattle.texts.specs.Room.{Ends, Lent};
 
 use check_file::Refusal;
 use desk_files::SystemError;
@@ -30,7 +30,8 @@ pub struct Style {
 
 // Puts all functions of a file, with no record marked.
 fn put_functions(file: &[u8], out: &mut Text<'_>)
-    ensures { Ends out.old.bytes.now out.old.used 10 → Ends out.new.bytes.now out.new.used 10 }
+    ensures lent { Lent out.old.bytes out.new.bytes }
+    ensures last { Ends out.old.bytes.now out.old.used 10 → Ends out.new.bytes.now out.new.used 10 }
 {
     if 12 <= file.len() {
         for function in 0..function_count(file) {
@@ -40,7 +41,9 @@ fn put_functions(file: &[u8], out: &mut Text<'_>)
 }
 
 // Puts the edition of a file, where it is not edition 0.
-fn put_edition(file: &[u8], out: &mut Text<'_>) {
+fn put_edition(file: &[u8], out: &mut Text<'_>)
+    ensures lent { Lent out.old.bytes out.new.bytes }
+{
     if 12 <= file.len() {
         let edition = edition_of(file);
         if edition != 0 {
@@ -51,7 +54,8 @@ fn put_edition(file: &[u8], out: &mut Text<'_>) {
 
 // Puts the line of a file that passes.
 fn put_passed_line(name: &[u8], file: &[u8], out: &mut Text<'_>)
-    ensures { Ends out.new.bytes.now out.new.used 10 }
+    ensures lent { Lent out.old.bytes out.new.bytes }
+    ensures last { Ends out.new.bytes.now out.new.used 10 }
 {
     out.put(name);
     out.put(b": passed");
@@ -61,6 +65,7 @@ fn put_passed_line(name: &[u8], file: &[u8], out: &mut Text<'_>)
 
 // Puts what is said of a file that passes, which is nothing where those are left out.
 pub fn put_passed(style: Style, name: &[u8], file: &[u8], revision: &[u8], out: &mut Text<'_>)
+    ensures lent { Lent out.old.bytes out.new.bytes }
     ensures quiet { style.quiet ≡ true → (out.new.bytes.now ≡ out.old.bytes.now) × (out.new.used ≡ out.old.used) }
     ensures said { style.quiet ≡ false → Ends out.new.bytes.now out.new.used 10 }
 {
@@ -79,7 +84,8 @@ pub fn put_passed(style: Style, name: &[u8], file: &[u8], revision: &[u8], out: 
 
 // Puts a refusal's numbers and its sentence after the name.
 fn put_line(name: &[u8], file: &[u8], refusal: Refusal, out: &mut Text<'_>)
-    ensures { Ends out.new.bytes.now out.new.used 10 }
+    ensures lent { Lent out.old.bytes out.new.bytes }
+    ensures last { Ends out.new.bytes.now out.new.used 10 }
 {
     out.put(name);
     out.put_numbered(b": refused ", refusal.question as u64);
@@ -92,7 +98,8 @@ fn put_line(name: &[u8], file: &[u8], refusal: Refusal, out: &mut Text<'_>)
 
 // Puts the function that a refusal names; before question 9 the records may not make a tree.
 fn put_look(file: &[u8], refusal: Refusal, out: &mut Text<'_>)
-    ensures { Ends out.new.bytes.now out.new.used 10 }
+    ensures lent { Lent out.old.bytes out.new.bytes }
+    ensures last { Ends out.new.bytes.now out.new.used 10 }
 {
     if refusal.question < 9 {
         return out.put(b"    no function is shown: the records of this file do not make one\n");
@@ -109,7 +116,8 @@ pub fn put_refused(
     revision: &[u8],
     out: &mut Text<'_>,
 )
-    ensures { Ends out.new.bytes.now out.new.used 10 }
+    ensures lent { Lent out.old.bytes out.new.bytes }
+    ensures last { Ends out.new.bytes.now out.new.used 10 }
 {
     match style.form {
         Form::Line => put_line(name, file, refusal, out),
@@ -129,7 +137,8 @@ pub fn put_unread(
     revision: &[u8],
     out: &mut Text<'_>,
 )
-    ensures { Ends out.new.bytes.now out.new.used 10 }
+    ensures lent { Lent out.old.bytes out.new.bytes }
+    ensures last { Ends out.new.bytes.now out.new.used 10 }
 {
     match style.form {
         Form::Object => objects::put_unread_object(name, error, revision, out),

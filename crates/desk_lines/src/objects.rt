@@ -1,6 +1,6 @@
 // What the desk says of a file as a JSON object on one line, with null where there is nothing to say.
 ghost use Rattle.std.specs.Prelude.{◌≡◌};
-ghost use Rattle.texts.specs.Room.{Ends};
+ghost use Rattle.texts.specs.Room.{Ends, Lent};
 
 use crate::strings::{put_hex, put_string};
 use check_file::Refusal;
@@ -57,7 +57,9 @@ fn names_of(file: &[u8], refusal: Refusal) -> Named {
 }
 
 // Puts the start of an object: the name and the verdict.
-fn put_begun(name: &[u8], verdict: &[u8], out: &mut Text<'_>) {
+fn put_begun(name: &[u8], verdict: &[u8], out: &mut Text<'_>)
+    ensures lent { Lent out.old.bytes out.new.bytes }
+{
     out.put(b"{\"name\":");
     put_string(name, out);
     out.put(b",\"verdict\":");
@@ -65,7 +67,9 @@ fn put_begun(name: &[u8], verdict: &[u8], out: &mut Text<'_>) {
 }
 
 // Puts a field with its label, null where there is no number.
-fn put_field(label: &[u8], field: Option<u64>, out: &mut Text<'_>) {
+fn put_field(label: &[u8], field: Option<u64>, out: &mut Text<'_>)
+    ensures lent { Lent out.old.bytes out.new.bytes }
+{
     out.put(label);
     match field {
         Some(n) => out.put_decimal(n),
@@ -74,7 +78,9 @@ fn put_field(label: &[u8], field: Option<u64>, out: &mut Text<'_>) {
 }
 
 // Puts the numbers of a refusal and what it names.
-fn put_numbers(file: &[u8], refusal: Refusal, out: &mut Text<'_>) {
+fn put_numbers(file: &[u8], refusal: Refusal, out: &mut Text<'_>)
+    ensures lent { Lent out.old.bytes out.new.bytes }
+{
     let names = names_of(file, refusal);
     out.put_numbered(b",\"question\":", refusal.question as u64);
     out.put_numbered(b",\"place\":", refusal.place as u64);
@@ -85,7 +91,9 @@ fn put_numbers(file: &[u8], refusal: Refusal, out: &mut Text<'_>) {
 }
 
 // Puts that a file is refused by no question.
-fn put_no_numbers(out: &mut Text<'_>) {
+fn put_no_numbers(out: &mut Text<'_>)
+    ensures lent { Lent out.old.bytes out.new.bytes }
+{
     out.put(
         b",\"question\":null,\"place\":null,\"item\":null,\"function\":null,\"node\":null,\"variable\":null",
     );
@@ -101,7 +109,9 @@ fn edition_field(file: &[u8], right: bool) -> Option<u64> {
 }
 
 // Puts the digest of a file that was read to its end, and null for a longer one.
-fn put_digest(file: &[u8], out: &mut Text<'_>) {
+fn put_digest(file: &[u8], out: &mut Text<'_>)
+    ensures lent { Lent out.old.bytes out.new.bytes }
+{
     if LONGEST_FILE < file.len() {
         return out.put(b",\"sha256\":null");
     }
@@ -113,14 +123,17 @@ fn put_digest(file: &[u8], out: &mut Text<'_>) {
 }
 
 // Puts what is known of a file's content: the edition, if its header is right, and the digest.
-fn put_content(file: &[u8], right: bool, out: &mut Text<'_>) {
+fn put_content(file: &[u8], right: bool, out: &mut Text<'_>)
+    ensures lent { Lent out.old.bytes out.new.bytes }
+{
     put_field(b",\"edition\":", edition_field(file, right), out);
     put_digest(file, out);
 }
 
 // Puts the end of an object: the revision of the desk.
 fn put_ended(revision: &[u8], out: &mut Text<'_>)
-    ensures { Ends out.new.bytes.now out.new.used 10 }
+    ensures lent { Lent out.old.bytes out.new.bytes }
+    ensures last { Ends out.new.bytes.now out.new.used 10 }
 {
     out.put(b",\"revision\":");
     put_string(revision, out);
@@ -129,7 +142,8 @@ fn put_ended(revision: &[u8], out: &mut Text<'_>)
 
 // Puts the object of a file that passes.
 pub fn put_passed_object(name: &[u8], file: &[u8], revision: &[u8], out: &mut Text<'_>)
-    ensures { Ends out.new.bytes.now out.new.used 10 }
+    ensures lent { Lent out.old.bytes out.new.bytes }
+    ensures last { Ends out.new.bytes.now out.new.used 10 }
 {
     put_begun(name, b"passed", out);
     put_no_numbers(out);
@@ -146,7 +160,8 @@ pub fn put_refused_object(
     revision: &[u8],
     out: &mut Text<'_>,
 )
-    ensures { Ends out.new.bytes.now out.new.used 10 }
+    ensures lent { Lent out.old.bytes out.new.bytes }
+    ensures last { Ends out.new.bytes.now out.new.used 10 }
 {
     put_begun(name, b"refused", out);
     put_numbers(file, refusal, out);
@@ -159,7 +174,8 @@ pub fn put_refused_object(
 
 // Puts the object of a file that cannot be read.
 pub fn put_unread_object(name: &[u8], error: SystemError, revision: &[u8], out: &mut Text<'_>)
-    ensures { Ends out.new.bytes.now out.new.used 10 }
+    ensures lent { Lent out.old.bytes out.new.bytes }
+    ensures last { Ends out.new.bytes.now out.new.used 10 }
 {
     put_begun(name, b"unread", out);
     put_no_numbers(out);

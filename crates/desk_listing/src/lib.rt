@@ -8,7 +8,7 @@ pub mod lines;
 pub mod worklist;
 
 ghost use Rattle.std.specs.Prelude.{◌<◌, ◌≤◌};
-ghost use Rattle.texts.specs.Room.{Ends};
+ghost use Rattle.texts.specs.Room.{Ends, Lent};
 
 use crate::lines::{Subject, child_of, deeper, put_margin, put_piece, put_signature};
 use crate::worklist::{Pending, Stack};
@@ -80,7 +80,9 @@ fn enter(
     depth: usize,
     stack: &mut Stack,
     out: &mut Text<'_>,
-) {
+)
+    ensures lent { Lent out.old.bytes out.new.bytes }
+{
     stack.push(Pending {
         node,
         expression,
@@ -103,6 +105,7 @@ fn enter_child(
     out: &mut Text<'_>,
 )
     requires { frame.node < subject.nodes }
+    ensures lent { Lent out.old.bytes out.new.bytes }
 {
     let child = child_of(subject, frame.node, frame.child);
     stack.advance(frame, frame.child.wrapping_add(1));
@@ -112,6 +115,7 @@ fn enter_child(
 // Goes on with the next of the children that are written between commas, or past them.
 fn enter_argument(subject: Subject<'_>, frame: Pending, stack: &mut Stack, out: &mut Text<'_>)
     requires { frame.node < subject.nodes }
+    ensures lent { Lent out.old.bytes out.new.bytes }
 {
     if arity_at(subject.part, frame.node) <= frame.child {
         return stack.advance(frame, frame.child);
@@ -128,7 +132,9 @@ fn enter_argument(subject: Subject<'_>, frame: Pending, stack: &mut Stack, out: 
 }
 
 // Writes the node of a frame as an expression.
-fn enter_itself(subject: Subject<'_>, frame: Pending, stack: &mut Stack, out: &mut Text<'_>) {
+fn enter_itself(subject: Subject<'_>, frame: Pending, stack: &mut Stack, out: &mut Text<'_>)
+    ensures lent { Lent out.old.bytes out.new.bytes }
+{
     stack.advance(frame, frame.child);
     enter(subject, frame.node, true, frame.depth, stack, out);
 }
@@ -136,6 +142,7 @@ fn enter_itself(subject: Subject<'_>, frame: Pending, stack: &mut Stack, out: &m
 // Takes one step with a frame: the next letter or sign of its template, or its end.
 fn step(subject: Subject<'_>, frame: Pending, stack: &mut Stack, out: &mut Text<'_>)
     requires { frame.node < subject.nodes }
+    ensures lent { Lent out.old.bytes out.new.bytes }
 {
     let depth = frame.depth;
     match next_letter(subject, frame) {
@@ -159,6 +166,7 @@ fn step(subject: Subject<'_>, frame: Pending, stack: &mut Stack, out: &mut Text<
 // Writes the last node of a part, which is its body.
 fn put_body(subject: Subject<'_>, out: &mut Text<'_>)
     requires { 0 < subject.nodes }
+    ensures lent { Lent out.old.bytes out.new.bytes }
 {
     let mut stack = Stack::new();
     enter(subject, subject.nodes - 1, false, 1, &mut stack, out);
@@ -174,7 +182,8 @@ fn put_body(subject: Subject<'_>, out: &mut Text<'_>)
 
 // Puts a function, each node by the template of its kind, with the record at a place marked, or none for place 0.
 pub fn put_function(file: &[u8], function: usize, place: usize, out: &mut Text<'_>)
-    ensures { Ends out.new.bytes.now out.new.used 10 }
+    ensures lent { Lent out.old.bytes out.new.bytes }
+    ensures last { Ends out.new.bytes.now out.new.used 10 }
 {
     let extent = desk_places::part_extent(file, function);
     let start = extent.start;
@@ -198,7 +207,8 @@ pub fn put_function(file: &[u8], function: usize, place: usize, out: &mut Text<'
 
 // Puts the function that the record at a place belongs to, with that record marked.
 pub fn put_listing(file: &[u8], place: usize, out: &mut Text<'_>)
-    ensures { Ends out.new.bytes.now out.new.used 10 }
+    ensures lent { Lent out.old.bytes out.new.bytes }
+    ensures last { Ends out.new.bytes.now out.new.used 10 }
 {
     match desk_places::locate(file, place) {
         Place::Function { function } => put_function(file, function, place, out),

@@ -4,7 +4,7 @@
 // the node's record, D does so one level deeper, and M begins a line without a record. V is the node's variable, F its function,
 // O its operator, I its int, B its bool, Y its type.
 ghost use Rattle.std.specs.Prelude.{◌≡◌, ◌*◌, ◌<◌, ◌≤◌, length};
-ghost use Rattle.texts.specs.Room.{Ends, EndsInside};
+ghost use Rattle.texts.specs.Room.{Ends, EndsInside, Lent};
 
 use records::nodes::{a_at, arity_at, b_at, kind_at, prior, size_at};
 use records::{mask_of, params_of, result_of};
@@ -32,7 +32,9 @@ pub fn deeper(depth: usize) -> usize
 }
 
 // Puts the number of a record four places wide, and spaces where there is none.
-fn put_record(record: usize, out: &mut Text<'_>) {
+fn put_record(record: usize, out: &mut Text<'_>)
+    ensures lent { Lent out.old.bytes out.new.bytes }
+{
     match record {
         0 => return out.put(b"    "),
         1..=9 => out.put(b"   "),
@@ -45,7 +47,8 @@ fn put_record(record: usize, out: &mut Text<'_>) {
 
 // Puts the indentation of a line.
 fn put_indentation(depth: usize, out: &mut Text<'_>)
-    ensures { EndsInside out.old.bytes.now out.old.used → EndsInside out.new.bytes.now out.new.used }
+    ensures lent { Lent out.old.bytes out.new.bytes }
+    ensures last { EndsInside out.old.bytes.now out.old.used → EndsInside out.new.bytes.now out.new.used }
 {
     for _ in 0..depth.min(DEEPEST) {
         out.put(b"  ");
@@ -54,7 +57,8 @@ fn put_indentation(depth: usize, out: &mut Text<'_>)
 
 // Puts the start of a line: the mark, the number of the record and the indentation.
 pub fn put_margin(record: usize, marked: bool, depth: usize, out: &mut Text<'_>)
-    ensures { EndsInside out.new.bytes.now out.new.used }
+    ensures lent { Lent out.old.bytes out.new.bytes }
+    ensures last { EndsInside out.new.bytes.now out.new.used }
 {
     out.put_word(&["    ", "  > "], marked as usize);
     put_record(record, out);
@@ -95,6 +99,7 @@ fn line_marked(subject: Subject<'_>, i: usize) -> bool
 // Puts the start of the line that node i begins: with its own record or, where the line has the marked node, with that one's.
 fn put_start(subject: Subject<'_>, i: usize, depth: usize, out: &mut Text<'_>)
     requires { i < subject.nodes }
+    ensures lent { Lent out.old.bytes out.new.bytes }
 {
     let marked = line_marked(subject, i);
     let shown = if marked { subject.marked } else { i };
@@ -104,7 +109,8 @@ fn put_start(subject: Subject<'_>, i: usize, depth: usize, out: &mut Text<'_>)
 // Puts what a letter or a sign of a template stands for at node i.
 pub fn put_piece(subject: Subject<'_>, i: usize, depth: usize, code: u8, out: &mut Text<'_>)
     requires { i < subject.nodes }
-    ensures { code ≡ 78 → Ends out.new.bytes.now out.new.used 10 }
+    ensures lent { Lent out.old.bytes out.new.bytes }
+    ensures last { code ≡ 78 → Ends out.new.bytes.now out.new.used 10 }
 {
     let part = subject.part;
     let b = b_at(part, i);
@@ -130,7 +136,9 @@ pub fn put_piece(subject: Subject<'_>, i: usize, depth: usize, code: u8, out: &m
 }
 
 // Puts the parameters of a function between commas: its first n, whose types the mask has.
-fn put_parameters(n: u8, mask: u8, out: &mut Text<'_>) {
+fn put_parameters(n: u8, mask: u8, out: &mut Text<'_>)
+    ensures lent { Lent out.old.bytes out.new.bytes }
+{
     let mut rest = mask;
     for i in 0..n {
         if 0 < i {
@@ -143,7 +151,9 @@ fn put_parameters(n: u8, mask: u8, out: &mut Text<'_>) {
 }
 
 // Puts a function's result, its name and its parameters.
-fn put_head(file: &[u8], function: usize, out: &mut Text<'_>) {
+fn put_head(file: &[u8], function: usize, out: &mut Text<'_>)
+    ensures lent { Lent out.old.bytes out.new.bytes }
+{
     if function < (file.len() / 12).saturating_sub(1) {
         out.put_word(
             &["void f", "int f", "bool f"],
@@ -157,7 +167,8 @@ fn put_head(file: &[u8], function: usize, out: &mut Text<'_>) {
 
 // Puts the first line of a function.
 pub fn put_signature(file: &[u8], function: usize, place: usize, out: &mut Text<'_>)
-    ensures { Ends out.new.bytes.now out.new.used 10 }
+    ensures lent { Lent out.old.bytes out.new.bytes }
+    ensures last { Ends out.new.bytes.now out.new.used 10 }
 {
     let record = function.wrapping_add(1);
     put_margin(record, place == record, 0, out);

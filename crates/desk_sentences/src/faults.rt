@@ -1,5 +1,5 @@
 // What is wrong with the record of a function or of a node, as the end of a sentence.
-ghost use Rattle.texts.specs.Room.{EndsInside};
+ghost use Rattle.texts.specs.Room.{EndsInside, Lent};
 
 use desk_faults::{FunctionFault, NodeFault};
 use records::nodes::size_at;
@@ -7,7 +7,8 @@ use texts::Text;
 
 // Puts what is wrong with a function's record.
 pub(crate) fn put_record(fault: FunctionFault, out: &mut Text<'_>)
-    ensures { EndsInside out.new.bytes.now out.new.used }
+    ensures lent { Lent out.old.bytes out.new.bytes }
+    ensures last { EndsInside out.new.bytes.now out.new.used }
 {
     match fault {
         FunctionFault::Missing => out.put(b" has no record"),
@@ -28,7 +29,8 @@ pub(crate) fn put_record(fault: FunctionFault, out: &mut Text<'_>)
 
 // Puts which field of a node of a kind is wrong; by kind.
 fn put_field(kind: u8, out: &mut Text<'_>)
-    ensures { EndsInside out.old.bytes.now out.old.used → EndsInside out.new.bytes.now out.new.used }
+    ensures lent { Lent out.old.bytes out.new.bytes }
+    ensures last { EndsInside out.old.bytes.now out.old.used → EndsInside out.new.bytes.now out.new.used }
 {
     match kind {
         0 | 4 | 6 | 7 | 10..=15 => out.put(b" has a field that is not 0"),
@@ -51,7 +53,8 @@ fn put_field(kind: u8, out: &mut Text<'_>)
 
 // Puts what is wrong with a node's fields.
 pub(crate) fn put_fields(fault: NodeFault, kind: u8, out: &mut Text<'_>)
-    ensures { EndsInside out.old.bytes.now out.old.used → EndsInside out.new.bytes.now out.new.used }
+    ensures lent { Lent out.old.bytes out.new.bytes }
+    ensures last { EndsInside out.old.bytes.now out.old.used → EndsInside out.new.bytes.now out.new.used }
 {
     match fault {
         NodeFault::Missing => out.put(b" is not in the file"),
@@ -63,7 +66,8 @@ pub(crate) fn put_fields(fault: NodeFault, kind: u8, out: &mut Text<'_>)
 
 // Puts how a node's size is wrong.
 pub(crate) fn put_size(file: &[u8], place: usize, function: usize, out: &mut Text<'_>)
-    ensures { EndsInside out.new.bytes.now out.new.used }
+    ensures lent { Lent out.old.bytes out.new.bytes }
+    ensures last { EndsInside out.new.bytes.now out.new.used }
 {
     if file.len() / 12 <= place {
         return out.put(b" is not in the file");
@@ -81,7 +85,8 @@ pub(crate) fn put_size(file: &[u8], place: usize, function: usize, out: &mut Tex
 
 // Puts which sort of node stands where the other one has to; by kind.
 pub(crate) fn put_sort(kind: u8, out: &mut Text<'_>)
-    ensures { EndsInside out.new.bytes.now out.new.used }
+    ensures lent { Lent out.old.bytes out.new.bytes }
+    ensures last { EndsInside out.new.bytes.now out.new.used }
 {
     match kind {
         6..=14 => out.put(b" is a statement where an expression has to stand"),
@@ -89,9 +94,10 @@ pub(crate) fn put_sort(kind: u8, out: &mut Text<'_>)
     }
 }
 
-// Puts which type is wrong at a node; nodes of other kinds take what is under them whatever its type is; by kind.
+// Puts which type is wrong at a node; nodes of other kinds take what is under them whatever its type is, and have a space here; by kind.
 pub(crate) fn put_type(kind: u8, out: &mut Text<'_>)
-    ensures { EndsInside out.old.bytes.now out.old.used → EndsInside out.new.bytes.now out.new.used }
+    ensures lent { Lent out.old.bytes out.new.bytes }
+    ensures last { EndsInside out.old.bytes.now out.old.used → EndsInside out.new.bytes.now out.new.used }
 {
     match kind {
         3 => out.put(b" takes two ints and is given something else"),
@@ -101,6 +107,7 @@ pub(crate) fn put_type(kind: u8, out: &mut Text<'_>)
         10 | 11 => out.put(b" has a condition that is not a bool"),
         12 => out.put(b" returns a value of another type than the function gives"),
         13 => out.put(b" asserts something that is not a bool"),
+        1 | 2 | 6 | 7 | 9 | 14 | 15 => out.put(b" "),
         _ => {}
     }
 }

@@ -1,5 +1,5 @@
 // What is wrong with a file as a whole: its length, its header, the number of its records.
-ghost use Rattle.texts.specs.Room.{EndsInside};
+ghost use Rattle.texts.specs.Room.{EndsInside, Lent};
 
 use records::format::{
     HEADER_MARK, LAST_EDITION, LONGEST_FILE, MOST_FUNCTIONS, MOST_NODES, SHORTEST_FILE,
@@ -9,7 +9,8 @@ use texts::Text;
 
 // Puts what is wrong with the length.
 pub fn put_length(file: &[u8], out: &mut Text<'_>)
-    ensures { EndsInside out.new.bytes.now out.new.used }
+    ensures lent { Lent out.old.bytes out.new.bytes }
+    ensures last { EndsInside out.new.bytes.now out.new.used }
 {
     let n = file.len();
     if LONGEST_FILE < n {
@@ -24,7 +25,8 @@ pub fn put_length(file: &[u8], out: &mut Text<'_>)
 
 // Puts what is wrong with the header.
 pub fn put_header(file: &[u8], out: &mut Text<'_>)
-    ensures { EndsInside out.new.bytes.now out.new.used }
+    ensures lent { Lent out.old.bytes out.new.bytes }
+    ensures last { EndsInside out.new.bytes.now out.new.used }
 {
     if file.len() < 12 {
         return out.put(b"the file has no header");
@@ -52,7 +54,8 @@ pub fn put_header(file: &[u8], out: &mut Text<'_>)
 
 // Puts how the length misses the header's counts.
 pub fn put_counts(file: &[u8], out: &mut Text<'_>)
-    ensures { EndsInside out.new.bytes.now out.new.used }
+    ensures lent { Lent out.old.bytes out.new.bytes }
+    ensures last { EndsInside out.new.bytes.now out.new.used }
 {
     if file.len() < 12 {
         return out.put(b"the file has no header");

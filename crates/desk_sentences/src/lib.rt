@@ -6,7 +6,7 @@ mod header;
 mod ways;
 
 ghost use Rattle.std.specs.Prelude.{◌≤◌};
-ghost use Rattle.texts.specs.Room.{EndsInside};
+ghost use Rattle.texts.specs.Room.{EndsInside, Lent};
 
 use desk_places::Place;
 use records::nodes::{a_at, b_at};
@@ -25,7 +25,8 @@ fn declared(file: &[u8], function: usize, x: u32) -> usize {
 
 // Puts how often a variable of a function is declared.
 fn put_undeclared(file: &[u8], function: usize, x: u32, out: &mut Text<'_>)
-    ensures { EndsInside out.new.bytes.now out.new.used }
+    ensures lent { Lent out.old.bytes out.new.bytes }
+    ensures last { EndsInside out.new.bytes.now out.new.used }
 {
     out.put_numbered(b", variable ", x as u64);
     let count = declared(file, function, x);
@@ -38,7 +39,8 @@ fn put_undeclared(file: &[u8], function: usize, x: u32, out: &mut Text<'_>)
 
 // Puts the function at a place and what is wrong with it.
 fn put_function(file: &[u8], question: u8, place: usize, item: u32, out: &mut Text<'_>)
-    ensures { EndsInside out.new.bytes.now out.new.used }
+    ensures lent { Lent out.old.bytes out.new.bytes }
+    ensures last { EndsInside out.new.bytes.now out.new.used }
 {
     let Place::Function { function } = desk_places::locate(file, place) else {
         return out.put(b"no function stands at this place");
@@ -53,7 +55,8 @@ fn put_function(file: &[u8], question: u8, place: usize, item: u32, out: &mut Te
 
 // Puts the function, the record and what the node is: `function 0, record 8 (variable 0)`.
 fn put_named(file: &[u8], place: usize, function: usize, kind: u8, out: &mut Text<'_>)
-    ensures { EndsInside out.new.bytes.now out.new.used }
+    ensures lent { Lent out.old.bytes out.new.bytes }
+    ensures last { EndsInside out.new.bytes.now out.new.used }
 {
     out.put_numbered(b"function ", function as u64);
     out.put_numbered(b", record ", place as u64);
@@ -66,7 +69,8 @@ fn put_named(file: &[u8], place: usize, function: usize, kind: u8, out: &mut Tex
 
 // Puts what is wrong with a node by the question that it fails.
 fn put_fault(file: &[u8], question: u8, place: usize, function: usize, kind: u8, out: &mut Text<'_>)
-    ensures { EndsInside out.old.bytes.now out.old.used → EndsInside out.new.bytes.now out.new.used }
+    ensures lent { Lent out.old.bytes out.new.bytes }
+    ensures last { EndsInside out.old.bytes.now out.old.used → EndsInside out.new.bytes.now out.new.used }
 {
     match question {
         7 => faults::put_fields(desk_faults::node_fault(file, place), kind, out),
@@ -80,7 +84,8 @@ fn put_fault(file: &[u8], question: u8, place: usize, function: usize, kind: u8,
 
 // Puts the node at a place and what is wrong with it.
 fn put_node(file: &[u8], question: u8, place: usize, out: &mut Text<'_>)
-    ensures { EndsInside out.new.bytes.now out.new.used }
+    ensures lent { Lent out.old.bytes out.new.bytes }
+    ensures last { EndsInside out.new.bytes.now out.new.used }
 {
     let Place::Node {
         function,
@@ -96,7 +101,8 @@ fn put_node(file: &[u8], question: u8, place: usize, out: &mut Text<'_>)
 
 // Puts the sentence for a question that a file fails at a place, with the item; there is none for a number that is no question.
 pub fn put_sentence(file: &[u8], question: u8, place: usize, item: u32, out: &mut Text<'_>)
-    ensures { 1 ≤ question → question ≤ 14 → EndsInside out.new.bytes.now out.new.used }
+    ensures lent { Lent out.old.bytes out.new.bytes }
+    ensures last { 1 ≤ question → question ≤ 14 → EndsInside out.new.bytes.now out.new.used }
 {
     match question {
         1 => header::put_length(file, out),

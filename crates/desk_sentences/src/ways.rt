@@ -1,11 +1,13 @@
 // On which way a variable has no value where it is read, as the end of a sentence.
-ghost use Rattle.texts.specs.Room.{EndsInside};
+ghost use Rattle.texts.specs.Room.{EndsInside, Lent};
 
 use desk_ways::Way;
 use texts::Text;
 
 // Puts the record of the if or the while that is passed without a value.
-fn put_passed(out: &mut Text<'_>, word: &[u8], record: usize) {
+fn put_passed(out: &mut Text<'_>, word: &[u8], record: usize)
+    ensures lent { Lent out.old.bytes out.new.bytes }
+{
     out.put(b" is read, and has no value where the ");
     out.put(word);
     out.put_numbered(b" at record ", record as u64);
@@ -13,7 +15,8 @@ fn put_passed(out: &mut Text<'_>, word: &[u8], record: usize) {
 
 // Puts on which way the variable that the record at a place of a function reads has no value.
 pub fn put_way(file: &[u8], place: usize, function: usize, out: &mut Text<'_>)
-    ensures { EndsInside out.new.bytes.now out.new.used }
+    ensures lent { Lent out.old.bytes out.new.bytes }
+    ensures last { EndsInside out.new.bytes.now out.new.used }
 {
     let extent = desk_places::part_extent(file, function);
     let start = extent.start;

@@ -1,6 +1,8 @@
 // Runs the procedure on standard input for 10,000 steps in a memory of its own, and prints one line: the outcome, or the refusal.
 #![tactic(auto)]
 
+ghost use Rattle.texts.specs.Room.{Lent};
+
 use check_file::Refusal;
 use records::format::KEPT_BYTES;
 use run_loop::{Outcome, Ran};
@@ -8,7 +10,9 @@ use state_words::layout::IMAGE_WORDS;
 use texts::Text;
 
 // Puts an outcome, and its int if it is a value.
-fn put_outcome(outcome: Outcome, out: &mut Text<'_>) {
+fn put_outcome(outcome: Outcome, out: &mut Text<'_>)
+    ensures lent { Lent out.old.bytes out.new.bytes }
+{
     match outcome {
         Outcome::Value(v) => {
             out.put(b"value ");
@@ -22,7 +26,9 @@ fn put_outcome(outcome: Outcome, out: &mut Text<'_>) {
 }
 
 // Puts how a run ended.
-fn put_end(ran: Ran, out: &mut Text<'_>) {
+fn put_end(ran: Ran, out: &mut Text<'_>)
+    ensures lent { Lent out.old.bytes out.new.bytes }
+{
     put_outcome(ran.outcome, out);
     out.put_numbered(b" steps ", ran.steps);
     out.put(b"\n");
@@ -36,7 +42,9 @@ fn start_and_run(file: &[u8]) -> Result<Ran, Refusal> {
 }
 
 // Puts how the run of a file's procedure ended, or the refusal.
-fn put_run(file: &[u8], out: &mut Text<'_>) {
+fn put_run(file: &[u8], out: &mut Text<'_>)
+    ensures lent { Lent out.old.bytes out.new.bytes }
+{
     match start_and_run(file) {
         Ok(ran) => put_end(ran, out),
         Err(r) => out.put_refusal(r.question, r.place, r.item),

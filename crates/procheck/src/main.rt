@@ -1,11 +1,15 @@
 // Checks the procedure on standard input, and prints one line: passed, or the refusal.
 #![tactic(auto)]
 
+ghost use Rattle.texts.specs.Room.{Lent};
+
 use records::format::KEPT_BYTES;
 use texts::Text;
 
 // Puts the answer to a file.
-fn put_answer(file: &[u8], out: &mut Text<'_>) {
+fn put_answer(file: &[u8], out: &mut Text<'_>)
+    ensures lent { Lent out.old.bytes out.new.bytes }
+{
     match check_file::check(file) {
         Ok(()) => out.put(b"passed\n"),
         Err(r) => out.put_refusal(r.question, r.place, r.item),

@@ -1,11 +1,12 @@
 // The names of operators and of kinds of nodes.
-ghost use Rattle.texts.specs.Room.{EndsInside};
+ghost use Rattle.texts.specs.Room.{EndsInside, Lent};
 
 use crate::Text;
 
 // Puts an operator as C0 writes it, or its number where there is none.
 pub fn put_operator(a: u8, out: &mut Text<'_>)
-    ensures { EndsInside out.new.bytes.now out.new.used }
+    ensures lent { Lent out.old.bytes out.new.bytes }
+    ensures last { EndsInside out.new.bytes.now out.new.used }
 {
     match a {
         0 => out.put(b"+"),
@@ -30,7 +31,8 @@ pub fn put_operator(a: u8, out: &mut Text<'_>)
 
 // Puts a kind by its name, and after it the operator, the variable or the function that the node names; by kind.
 pub fn put_kind(kind: u8, a: u8, b: u32, out: &mut Text<'_>)
-    ensures { EndsInside out.new.bytes.now out.new.used }
+    ensures lent { Lent out.old.bytes out.new.bytes }
+    ensures last { EndsInside out.new.bytes.now out.new.used }
 {
     match kind {
         0 => out.put(b"int"),

@@ -4,7 +4,7 @@
 pub mod kinds;
 
 ghost use Rattle.std.specs.Prelude.{◌≡◌, min, ◌-◌, ◌≤◌, ◌<◌, [], ◌∷◌, length, take, get_or, slice_get, MatchOption};
-ghost use Rattle.texts.specs.Room.{Put, Ends, EndsInside};
+ghost use Rattle.texts.specs.Room.{Put, Ends, EndsInside, Lent};
 
 // A lent buffer, and how many bytes wait at its start.
 //
@@ -19,6 +19,7 @@ pub struct Text<'a> {
 impl<'a> Text<'a> {
     // A text of which nothing waits yet.
     pub fn new(bytes: &'a mut [u8]) -> Text<'a>
+        ensures lent { result.bytes.ghost_name ≡ bytes.entry.ghost_name }
         ensures none { result.used ≡ 0 }
         ensures whole { length result.bytes.now ≡ length bytes.old }
     {
@@ -27,6 +28,7 @@ impl<'a> Text<'a> {
 
     // A text of whose buffer so many bytes wait already, or all where it has fewer.
     pub fn resumed(bytes: &'a mut [u8], waiting: usize) -> Text<'a>
+        ensures lent { result.bytes.ghost_name ≡ bytes.entry.ghost_name }
         ensures used { result.used ≡ min waiting (length bytes.old) }
         ensures same { result.bytes.now ≡ bytes.old }
     {
@@ -43,6 +45,7 @@ impl<'a> Text<'a> {
 
     // Writes out the bytes that wait, so that none does.
     pub fn write_out(&mut self)
+        ensures lent { Lent self.old.bytes self.new.bytes }
         ensures none { self.new.used ≡ 0 }
         ensures same { self.new.bytes.now ≡ self.old.bytes.now }
     {
@@ -52,6 +55,7 @@ impl<'a> Text<'a> {
 
     // Makes room for a byte: writes out a full buffer.
     fn make_room(&mut self)
+        ensures lent { Lent self.old.bytes self.new.bytes }
         ensures same { self.new.bytes.now ≡ self.old.bytes.now }
         ensures used { (self.new.used ≤ self.old.used) × (self.old.used < length self.old.bytes.now → self.new.used ≡ self.old.used) }
         ensures room { 0 < length self.old.bytes.now → self.new.used < length self.old.bytes.now }
@@ -63,6 +67,7 @@ impl<'a> Text<'a> {
 
     // Puts a byte after those that wait; a buffer of no bytes takes nothing.
     pub fn put_byte(&mut self, b: u8)
+        ensures lent { Lent self.old.bytes self.new.bytes }
         ensures put { Put self.old.bytes.now self.old.used (b ∷ []) self.new.bytes.now self.new.used }
         ensures last { Ends self.new.bytes.now self.new.used b }
     {
@@ -75,6 +80,7 @@ impl<'a> Text<'a> {
 
     // Puts a text after the bytes that wait.
     pub fn put(&mut self, text: &[u8])
+        ensures lent { Lent self.old.bytes self.new.bytes }
         ensures put { Put self.old.bytes.now self.old.used text.now self.new.bytes.now self.new.used }
         ensures last { 0 < length text.now → Ends self.new.bytes.now self.new.used (get_or text.now (length text.now - 1) 0) }
     {
@@ -85,7 +91,8 @@ impl<'a> Text<'a> {
 
     // Puts a number in decimal.
     pub fn put_decimal(&mut self, n: u64)
-        ensures { EndsInside self.new.bytes.now self.new.used }
+        ensures lent { Lent self.old.bytes self.new.bytes }
+        ensures last { EndsInside self.new.bytes.now self.new.used }
     {
         let mut digits = [0u8; 20];
         let k = io::decimal(n, &mut digits);
@@ -94,7 +101,8 @@ impl<'a> Text<'a> {
 
     // Puts a text and a number after it.
     pub fn put_numbered(&mut self, text: &[u8], n: u64)
-        ensures { EndsInside self.new.bytes.now self.new.used }
+        ensures lent { Lent self.old.bytes self.new.bytes }
+        ensures last { EndsInside self.new.bytes.now self.new.used }
     {
         self.put(text);
         self.put_decimal(n);
@@ -102,7 +110,8 @@ impl<'a> Text<'a> {
 
     // Puts the int whose 32 bits are given, with its sign.
     pub fn put_int(&mut self, bits: u32)
-        ensures { EndsInside self.new.bytes.now self.new.used }
+        ensures lent { Lent self.old.bytes self.new.bytes }
+        ensures last { EndsInside self.new.bytes.now self.new.used }
     {
         if bits < 2147483648 {
             self.put_decimal(bits as u64);
@@ -113,7 +122,8 @@ impl<'a> Text<'a> {
 
     // Puts a refusal as a line.
     pub fn put_refusal(&mut self, question: u8, place: usize, item: u32)
-        ensures { Ends self.new.bytes.now self.new.used 10 }
+        ensures lent { Lent self.old.bytes self.new.bytes }
+        ensures last { Ends self.new.bytes.now self.new.used 10 }
     {
         self.put_numbered(b"refused ", question as u64);
         self.put_numbered(b" place ", place as u64);
@@ -123,7 +133,8 @@ impl<'a> Text<'a> {
 
     // Puts word k of a list, and nothing where it has no such word.
     pub fn put_word(&mut self, words: &[&str], k: usize)
-        ensures { MatchOption (slice_get words.now k) (Put self.old.bytes.now self.old.used [] self.new.bytes.now self.new.used) (λ w. Put self.old.bytes.now self.old.used w.now self.new.bytes.now self.new.used) }
+        ensures lent { Lent self.old.bytes self.new.bytes }
+        ensures put { MatchOption (slice_get words.now k) (Put self.old.bytes.now self.old.used [] self.new.bytes.now self.new.used) (λ w. Put self.old.bytes.now self.old.used w.now self.new.bytes.now self.new.used) }
     {
         let word = word_of(words, k).as_bytes();
         self.put(word);

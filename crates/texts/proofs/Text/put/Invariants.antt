@@ -2,4 +2,4 @@ use Rattle.texts.proofs.Putting.{Putting}
 use Rattle.texts.proofs.Text.put.Given as goal
 
 abbrev pub invariant-loop-b : goal.invariant-loop-b
-invariant-loop-b l = Putting l.initial.self.bytes.now l.initial.self.used l.text l.self.bytes.now l.self.used l.b-index
+invariant-loop-b l = Putting l.initial.self.bytes l.initial.self.used l.text l.self.bytes l.self.used l.b-index
