@@ -1,18 +1,19 @@
 -- The bit operations on numbers of any width are the operations on sets.
 use mathlib.Core.Path.{◌≡◌, refl, sym, ap, ◌∙◌}
-use mathlib.Core.Bool.{Bool, true, false, ◌&&◌, ◌||◌}
+use mathlib.Core.Bool.{Bool, true, false, not, ◌&&◌, ◌||◌}
 use Prim.Native.Nat.{ℕ, zero, suc, ◌+◌, ◌-◌, ◌*◌, ◌/◌, ◌%◌, ◌^◌, ◌≤◌, ◌<◌, min, max}
-use native.Mathlib.Nat.{mod-lt, zero-lt-suc, not-suc-le-zero, le_of_suc-le-suc, div-eq_of_lt, div-one, one-mul, pow-suc}
+use native.Mathlib.Nat.{mod-lt, zero-lt-suc, not-suc-le-zero, le_of_suc-le-suc, lt_of_lt_of_le, div-eq_of_lt, div-one, one-mul, pow-suc, pow-le-pow_right}
 use native.Mathlib.Numerals.{one-add}
 use native.Mathlib.Omega.{arith}
+use native.Mathlib.Decide.{dec_lt}
 use borrow.Author.Tests.{lt-ltb, le-ltb, ltb-true, ltb-false}
 use lib.Dec.{eqb, ltb, lit<, eqb-zero-suc, eqb-suc-zero, eqb-suc-suc}
 use lib.Count.{count_trailing_zeros, under}
 use lib.Arith.{digits_mod}
-use lib.Bits.{bit_and, bit_or, and_step, or_step, and_shr, or_shr, shifted_half, shifted_even}
+use lib.Bits.{differ, bit_and, bit_or, bit_xor, and_step, or_step, xor_step, and_shr, or_shr, xor_shr, shifted_half, shifted_even}
 use lib.Pow.{pow_pos, pow-lt, shr-shr, shl_exact}
 use Rattle.varset.specs.Lowest.{pick, lowest}
-use Rattle.varset.specs.Sets.{has, with, both, either, none, below}
+use Rattle.varset.specs.Sets.{has, with, without, both, either, less, none, below}
 
 -- how an operation on digits acts on members
 record Digits (f : ℕ → ℕ → ℕ) (g : Bool → Bool → Bool) : Type 0 where
@@ -56,6 +57,21 @@ and_has = op_has bit_and min ◌&&◌ and_step and_shr (table min ◌&&◌ (lit<
 
 pub or_has : (a b i : ℕ) → has (bit_or a b) i ≡ has a i || has b i
 or_has = op_has bit_or max ◌||◌ or_step or_shr (table max ◌||◌ (lit< tt) (lit< tt) (lit< tt) (lit< tt) refl refl refl refl)
+
+abbrev unlike : Bool → Bool → Bool
+unlike true b = not b
+unlike false b = b
+
+pub xor_has : (a b i : ℕ) → has (bit_xor a b) i ≡ unlike (has a i) (has b i)
+xor_has = op_has bit_xor differ unlike xor_step xor_shr (table differ unlike (lit< tt) (lit< tt) (lit< tt) (lit< tt) refl refl refl refl)
+
+drop_shared : (s t : Bool) → unlike s (s && t) ≡ s && not t
+drop_shared true t = refl
+drop_shared false t = refl
+
+-- what a has and b has not, with no complement and so no width
+pub less_has : (a b i : ℕ) → has (bit_xor a (bit_and a b)) i ≡ has a i && not (has b i)
+less_has a b i = xor_has a (bit_and a b) i ∙ ap (unlike (has a i)) (and_has a b i) ∙ drop_shared (has a i) (has b i)
 
 pub zero_has : (i : ℕ) → has 0 i ≡ false
 unfolding has
@@ -110,9 +126,17 @@ pub either_is : (a b : ℕ) → has (bit_or a b) ≡ either (has a) (has b)
 unfolding either
 either_is a b = λ k j. or_has a b j k
 
+pub less_is : (a b : ℕ) → has (bit_xor a (bit_and a b)) ≡ less (has a) (has b)
+unfolding less
+less_is a b = λ k j. less_has a b j k
+
 pub with_is : (w a i : ℕ) → i < w → has (bit_or a (1 * 2 ^ i % 2 ^ w)) ≡ with (has a) i
 unfolding with
 with_is w a i h = λ k j. (or_has a (1 * 2 ^ i % 2 ^ w) j ∙ ap (λ (b : Bool). has a j || b) (shl_has w i j h)) k
+
+pub without_is : (w a i : ℕ) → i < w → has (bit_xor a (bit_and a (1 * 2 ^ i % 2 ^ w))) ≡ without (has a) i
+unfolding without
+without_is w a i h = λ k j. (less_has a (1 * 2 ^ i % 2 ^ w) j ∙ ap (λ (b : Bool). has a j && not b) (shl_has w i j h)) k
 
 -- a row of n ones has the numbers below n
 ones_half : (n : ℕ) → (2 ^ suc n - 1) / 2 ≡ 2 ^ n - 1
@@ -153,3 +177,47 @@ shl_some w n h =
     let e : 1 * 2 ^ n % 2 ^ w ≡ 2 ^ n = shl_exact 1 n w (lit< tt) (omega arith) ∙ one-mul (2 ^ n) in
     let p : 0 < 2 ^ n = pow_pos n in
     omega arith
+
+-- ---- the complement of a word of w bits, and what a word has and another has not by it
+
+complement_half : (w b : ℕ) → b < 2 ^ suc w → (2 ^ suc w - 1 - b) / 2 ≡ 2 ^ w - 1 - b / 2
+complement_half w b h = let e : 2 ^ suc w ≡ 2 ^ w * 2 = pow-suc 2 w in omega arith
+
+complement_digit : (w b : ℕ) → b < 2 ^ suc w → (2 ^ suc w - 1 - b) % 2 ≡ 1 - b % 2
+complement_digit w b h = let e : 2 ^ suc w ≡ 2 ^ w * 2 = pow-suc 2 w in omega arith
+
+other_digit : (n : ℕ) → n < 2 → eqb (1 - n) 1 ≡ not (eqb n 1)
+other_digit zero h = refl
+other_digit (suc zero) h = refl
+other_digit (suc (suc n)) h = absurd (not-suc-le-zero (le_of_suc-le-suc (le_of_suc-le-suc h)))
+
+-- a number below w is in the complement where it is not in the word
+not_has : (w b i : ℕ) → b < 2 ^ w → i < w → has (2 ^ w - 1 - b) i ≡ not (has b i)
+not_has zero b i h l = absurd (not-suc-le-zero l)
+not_has (suc w) b zero h l =
+    bit_zero (2 ^ suc w - 1 - b) ∙ ap (λ (x : ℕ). eqb x 1) (complement_digit w b h) ∙ other_digit (b % 2) (mod-lt b (zero-lt-suc 1)) ∙ ap not (sym (bit_zero b))
+not_has (suc w) b (suc i) h l =
+    let e : 2 ^ suc w ≡ 2 ^ w * 2 = pow-suc 2 w in
+    sym (half_has (2 ^ suc w - 1 - b) i) ∙ ap (λ (x : ℕ). has x i) (complement_half w b h) ∙ not_has w (b / 2) i (omega arith) (omega arith) ∙ ap not (half_has b i)
+
+-- a word of w bits has no number from w on
+past_has : (w a i : ℕ) → a < 2 ^ w → w ≤ i → has a i ≡ false
+unfolding has
+past_has w a i h l = ap (λ (n : ℕ). eqb (n % 2) 1) (div-eq_of_lt (lt_of_lt_of_le h (pow-le-pow_right (zero-lt-suc 1) l)))
+
+-- what a has and b has not, by the complement of b
+less_not_has : (w a b i : ℕ) → a < 2 ^ w → b < 2 ^ w → has (bit_and a (2 ^ w - 1 - b)) i ≡ has a i && not (has b i)
+less_not_has w a b i h k = and_has a (2 ^ w - 1 - b) i ∙ go (dec_lt i w)
+  where
+    go : Dec (i < w) → has a i && has (2 ^ w - 1 - b) i ≡ has a i && not (has b i)
+    go (yes l) = ap (λ (x : Bool). has a i && x) (not_has w b i k l)
+    go (no g) = let u : w ≤ i = omega arith in rw (past_has w a i h u)
+
+pub less_not : (w a b : ℕ) → a < 2 ^ w → b < 2 ^ w → has (bit_and a (2 ^ w - 1 - b)) ≡ less (has a) (has b)
+unfolding less
+less_not w a b h k = λ t j. less_not_has w a b j h k t
+
+pub without_not : (w a i : ℕ) → a < 2 ^ w → i < w → has (bit_and a (2 ^ w - 1 - 1 * 2 ^ i % 2 ^ w)) ≡ without (has a) i
+unfolding without
+without_not w a i h l =
+    λ t j. (less_not_has w a (1 * 2 ^ i % 2 ^ w) j h (mod-lt (1 * 2 ^ i) (pow_pos w)) ∙ ap (λ (b : Bool). has a j && not b) (shl_has w i j l)) t
