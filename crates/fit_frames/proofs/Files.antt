@@ -16,6 +16,7 @@ use Rattle.spec_machine.specs.File.{types_from, fun_of, program_of}
 use Rattle.spec_machine.specs.Test.{has_var}
 use Rattle.spec_machine.proofs.Operands.{types_length, types_same}
 use Rattle.spec_machine.proofs.Nodes.{variables}
+use Rattle.fit_nodes.specs.Part.{IsPart}
 
 module _ (s : List ℕ) (e : check_of s ≡ accepted) where
   pub laid : Laid s
@@ -38,3 +39,7 @@ unfolding program_of fun_of types.var_type types.param_type
 call_wants s g =
     types_same (types.var_type s g (part_of s g) (count_of s g)) (types.mask_type (mask_of s g) 0 0) (params_of s g) 0
     (λ k p q. let z : k < params_of s g = omega arith in rw (lt-ltb k (params_of s g) z))
+
+-- the record of a function whose part is known
+pub record_of_part : {s t : List ℕ} {f n : ℕ} → IsPart s f t n → 12 * (1 + f) + 12 ≤ length s
+record_of_part p = record_in_lem _ p.passed _ p.known

@@ -148,7 +148,7 @@ pub fn frame_step(known: &KnownPart<'_>, frame: &StoredFrame<'_>, d: Received) -
         FRAME_WAIT => statements::wait_step(known, x, d),
         FRAME_STORE => statements::store_step(known, x, d),
         FRAME_BRANCH => statements::branch_step(known, x, frame.word(2), d),
-        FRAME_RETURN => statements::leave_step(&known.part, d),
+        FRAME_RETURN => statements::leave_step(known.part.file, known.part.function, d),
         FRAME_ASSERT => assert_step(d),
         _ => discard_step(d),
     }

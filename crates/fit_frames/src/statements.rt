@@ -1,5 +1,5 @@
 // Frames that a statement leaves: one that waits, an assignment, the branches of an if, and a return.
-ghost use Rattle.std.specs.Prelude.{◌≡◌, true, Some};
+ghost use Rattle.std.specs.Prelude.{◌≡◌, true, Some, ◌+◌, ◌*◌, ◌≤◌, length};
 ghost use Rattle.spec_machine.specs.Machine.{Frame, wait, branch};
 ghost use Rattle.spec_machine.specs.File.{program_of};
 ghost use Rattle.spec_machine.specs.Test.{stmt_in};
@@ -9,7 +9,6 @@ ghost use Rattle.fit_frames.specs.Meaning.{Steps};
 
 use crate::{Received, bare};
 use fit_flow::KnownPart;
-use fit_nodes::Part;
 use records::format::TYPE_BOOL;
 use records::{result_of, vars_of, wide};
 use state_words::{Ref, ref_of};
@@ -84,10 +83,11 @@ fn branches(known: &KnownPart<'_>, r: Ref, q: Ref, d: Received) -> Option<Receiv
 
 // A return's value, which counts as giving every variable a value.
 #[tactic(auto, unfolding(spec_machine::specs::File::program_of, spec_machine::specs::File::fun_of))]
-pub fn leave_step(part: &Part<'_>, d: Received) -> Option<Received>
-    ensures { Steps (program_of part.now.file.now) part.now.function d Frame.leave result }
+pub fn leave_step(file: &[u8], f: usize, d: Received) -> Option<Received>
+    requires { 12 * (1 + f) + 12 ≤ length file.now }
+    ensures { Steps (program_of file.now) f d Frame.leave result }
 {
-    if d.given? != result_of(part.file, part.function) {
+    if d.given? != result_of(file, f) {
         return None;
     }
     let all = d.set.union(VarSet::full());

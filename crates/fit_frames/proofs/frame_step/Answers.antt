@@ -1,5 +1,6 @@
 use mathlib.Core.Path.{sym, ◌∙◌}
 use Rattle.spec_image.specs.Decode.{frames}
+use Rattle.fit_frames.proofs.Files.{record_of_part}
 use Rattle.fit_frames.proofs.Forms.{frame_in_lem, frame_else}
 use Rattle.fit_frames.proofs.frame_step.Goals as goal
 
@@ -26,6 +27,9 @@ returns-in-5 c = let a = c.args.frame.now in rw (frame_in_lem a.memory.now a.pla
 pub returns-in-6 : goal.returns-in-6
 unfolding frames
 returns-in-6 c = let a = c.args.frame.now in rw (frame_in_lem a.memory.now a.place 6 (sym c.word-kind.ensures ∙ c.in-6.is), ← c.word-x.ensures, ← c.word.ensures) c.branch_step.ensures
+
+pub leave_step-requires : goal.leave_step-requires
+leave_step-requires c = record_of_part c.args.known.now.part.known
 
 pub returns-in-7 : goal.returns-in-7
 unfolding frames
