@@ -14,7 +14,7 @@ use Rattle.records.specs.Search.{At, or_else, clear}
 use Rattle.records.specs.declared.Found.{Found}
 use Rattle.spec_language.specs.Sorts.{wants_expression}
 use Rattle.spec_language.specs.KindLists.{is_statement}
-use Rattle.spec_language.specs.Statements.{Statement, prior, last, reads_of, statement_at}
+use Rattle.spec_language.specs.Statements.{Statement, prior, last, reads_of, statement_in, statement_at}
 use Rattle.spec_language.specs.Flow.{leaves, missing, lacks, returns}
 use Rattle.spec_language.specs.Known.{Known, WellFormed}
 use Rattle.spec_language.proofs.KindLists.{statement_within, statement_outside}
@@ -33,6 +33,10 @@ one-of : (b : Bool) (f g : Option Found) → b ≡ clear f → or_else f g ≡ p
 unfolding or_else
 one-of b (Some found) g e = rw e refl
 one-of b None g e = rw e refl
+
+-- what the arms before leave of a range
+pub from_twelve : (k : ℕ) → 7 ≤ k → (k ≡ 7 → ⊥) → (k ≡ 8 → ⊥) → (k ≡ 9 → ⊥) → (k ≡ 10 → ⊥) → (k ≡ 11 → ⊥) → 12 ≤ k
+from_twelve k l a b c d e = omega arith
 
 module _ {t : List ℕ} {n : ℕ} (p : WellFormed t n) {i : ℕ} (l : i < n) where
   above : (kind : ℕ) → kind_at t i ≡ kind → is_statement kind ≡ true → 0 < i
@@ -73,6 +77,11 @@ module _ {t : List ℕ} {n : ℕ} (p : WellFormed t n) {i : ℕ} (l : i < n) whe
 
     pub rest_lacks : (kind : ℕ) → kind_at t i ≡ kind → (kind < 7) ⊎ (15 ≤ kind) → found ≡ None → found ≡ lacks (statement_at t i) d
     rest_lacks kind e h g = g ∙ sym (lacks_rest t i d (rw e (statement_outside kind h)))
+
+-- no statement stands at node 0
+pub first_lacks : (t : List ℕ) (i : ℕ) (d : Set) → i ≤ 0 → None ≡ lacks (statement_at t i) d
+unfolding statement_at statement_in lacks
+first_lacks t i d l = let e : i ≡ 0 = omega arith in rw e refl
 
 -- what the last of n nodes lacks is one of them
 pub lacking_within : {t : List ℕ} {n : ℕ} (d : Set) {r : Option Found} → Known t n → 1 ≤ n → r ≡ lacks (statement_at t (n - 1)) d → (i x : ℕ) → r ≡ At i x → i < n

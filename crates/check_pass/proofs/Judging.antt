@@ -30,6 +30,11 @@ use Rattle.check_pass.proofs.Kids.{positive, kid_typed, kid_statement, judged, n
 abbrev Fits : List ℕ → ℕ → ℕ → Type 0
 Fits t i sum = (size_at t i ≡ 1 + sum) × (sum ≤ i)
 
+-- the set of a variable alone has it
+pub has_own : {r : Set} (x : ℕ) → r ≡ with none x → r x ≡ true
+unfolding with
+has_own x e = rw e (or_last (none x) _ (eq-eqb x x refl))
+
 module _ (s : List ℕ) (f : ℕ) (t : List ℕ) (n i : ℕ) {d : Set} where
   pub leaf_judged : {r : Effect} → Leaf s f t n i r.code → Fits t i 0 → has r.sets.0 ≡ none → Judged s f t n d i r
   unfolding total
@@ -38,14 +43,14 @@ module _ (s : List ℕ) (f : ℕ) (t : List ℕ) (n i : ℕ) {d : Set} where
       (rw (statement_rest t i l.plain) (nop_means g (λ y. omega (arith, l.small))))
 
   pub variable_judged : {r : Effect} (stray fit : Bool) → kind_at t i ≡ 2 → r.code ≡ var_type s f t n (b_at t i) → stray ≡ outside s f t n i
-      → ((ltb r.code statement_code && not stray) && fit) ≡ true → (fit ≡ true → Fits t i 0) → has r.reads.0 ≡ with none (b_at t i) → has r.sets.0 ≡ none → Judged s f t n d i r
-  unfolding total arity_at arity_of arities is_expression type_at types_of with
+      → ((ltb r.code statement_code && not stray) && fit) ≡ true → (fit ≡ true → Fits t i 0) → has r.reads.0 (b_at t i) ≡ true → has r.sets.0 ≡ none → Judged s f t n d i r
+  unfolding total arity_at arity_of arities is_expression type_at types_of
   variable_judged {r} stray fit e h o z g own m =
       let u = and_left (ltb r.code statement_code && not stray) fit z in
       let l = and_left (ltb r.code statement_code) (not stray) u in
       let v = g (and_right (ltb r.code statement_code && not stray) fit z) in
       judged s f t n i [] (no_children s f t n i (rw e)) v.0 v.1 tt (sym o ∙ not-true stray (and_right (ltb r.code statement_code) (not stray) u)) (rw (e, l)) (λ y. rw (e, h))
-      (λ y. (λ k. rw own (or_last (none (b_at t i)) _ (eq-eqb (b_at t i) (b_at t i) refl)), tt))
+      (λ y. (λ k. own, tt))
       (rw (statement_rest t i (rw e)) (nop_means m (λ y. omega (arith, ltb-true r.code statement_code l))))
 
 -- a node with two children, b and a, and one with three

@@ -4,7 +4,7 @@ ghost use Rattle.spec_language.specs.Types.{unset, var_type};
 ghost use Rattle.spec_language.specs.Nodes.{outside};
 ghost use Rattle.varset.specs.Sets.{has, none, with};
 ghost use Rattle.records.specs.Fields.{b_at, size_at};
-ghost use Rattle.check_pass.specs.Judged.{AtNode, one_proof};
+ghost use Rattle.check_pass.specs.Judged.{AtNode, effect_in, one_proof};
 
 use check_effects::{Effect, FAILING, STATEMENT, of_expression, plain};
 use records::format::{TYPE_BOOL, VARIABLE_ENTRIES};
@@ -41,7 +41,8 @@ impl Node<'_> {
     // The effect of node k.
     pub fn effect_of(&self, k: usize) -> Effect
         requires { k < self.now.count }
-        ensures { k < self.now.index → JudgedAt self.now k result }
+        ensures stored { result ≡ effect_in self.now.codes.now self.now.reads.now self.now.sets.now k }
+        ensures judged { k < self.now.index → JudgedAt self.now k result }
     {
         Effect {
             code: self.codes[k],

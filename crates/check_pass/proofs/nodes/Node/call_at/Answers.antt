@@ -26,7 +26,7 @@ pub overflow_add-sum : goal.overflow_add-sum
 overflow_add-sum c = omega (arith, c.loop-j.invariant.1.bound, c.size_at-size.ensures.1, c.args.self.now.at.part.arguments _ c.args.self.now.at.below c.requires)
 
 pub loop-j-preserved : goal.loop-j-preserved
-loop-j-preserved c = (omega (arith, c.loop-j.invariant.0, c.minus-c-in-loop-j.ensures), left_next _ _ _ _ _ c.requires c.b_at-callee.ensures c.effect_of-argument.ensures c.loop-j-test.true c.loop-j.invariant.1 c.param_type.ensures (omega (arith, c.if-argument-param_type.false)) c.union-all.ensures c.size_at-size.ensures.0 c.size_at-size.ensures.1 c.minus-c-in-loop-j.ensures)
+loop-j-preserved c = (omega (arith, c.loop-j.invariant.0, c.minus-c-in-loop-j.ensures), left_next _ _ _ _ _ c.requires c.b_at-callee.ensures c.effect_of-argument.ensures.judged c.loop-j-test.true c.loop-j.invariant.1 c.param_type.ensures (omega (arith, c.if-argument-param_type.false)) c.union-all.ensures c.size_at-size.ensures.0 c.size_at-size.ensures.1 c.minus-c-in-loop-j.ensures)
 
 pub result_of-found-requires : goal.result_of-found-requires
 result_of-found-requires c = (laid_at _ _ _ c.args.self.now.at.part.laid (c.args.self.now.at.part.calls _ c.args.self.now.at.below c.requires) c.b_at-callee.ensures).0

@@ -2,4 +2,4 @@ use Rattle.check_pass.proofs.Judging.{loop_judged}
 use Rattle.check_pass.proofs.nodes.Node.loop_at.Goals as goal
 
 pub returns : goal.returns
-returns c = λ l. let g = c.guard.ensures l in rw g.1 (loop_judged _ _ _ _ _ c.minus-b.ensures c.size_at-size.ensures.0 c.minus-a.ensures c.size_at.ensures.0 _ c.requires c.fits-fit.ensures c.effect_of-test.ensures c.effect_of-body.ensures g.0 c.in_loop-e.ensures)
+returns c = λ l. let g = c.guard.ensures l in rw g.1 (loop_judged _ _ _ _ _ c.minus-b.ensures c.size_at-size.ensures.0 c.minus-a.ensures c.size_at.ensures.0 _ c.requires c.fits-fit.ensures c.effect_of-test.ensures.judged c.effect_of-body.ensures.judged g.0 c.in_loop-e.ensures)

@@ -2,4 +2,4 @@ use Rattle.check_pass.proofs.Judging.{operator_judged}
 use Rattle.check_pass.proofs.nodes.Node.operator_at.Goals as goal
 
 pub returns : goal.returns
-returns c = λ l. let g = c.guard.ensures l in rw (g.1, c.plain.ensures) (operator_judged _ _ _ _ _ c.minus-b.ensures c.size_at-size.ensures.0 c.minus-a.ensures c.size_at.ensures.0 _ c.requires c.fits-fit.ensures c.effect_of-left.ensures c.effect_of-right.ensures g.0 c.union-all.ensures c.empty.ensures)
+returns c = λ l. let g = c.guard.ensures l in rw (g.1, c.plain.ensures) (operator_judged _ _ _ _ _ c.minus-b.ensures c.size_at-size.ensures.0 c.minus-a.ensures c.size_at.ensures.0 _ c.requires c.fits-fit.ensures c.effect_of-left.ensures.judged c.effect_of-right.ensures.judged g.0 c.union-all.ensures c.empty.ensures)
